@@ -1,5 +1,6 @@
 -- What the loops of the runs keep, and how it goes on by a step.
-use Rattle.std.proofs.Common.{◌≡◌, ℕ, ◌+◌, ◌<◌, ◌≤◌, Bool, true, false, List, [], ◌∷◌, ◌++◌, length, refl, sym, ap, ◌∙◌, arith}
+use Rattle.std.proofs.Common.{◌≡◌, ℕ, ◌+◌, ◌<◌, ◌≤◌, Bool, true, false, List}
+use Rattle.std.proofs.Common.{[], ◌∷◌, ◌++◌, length, refl, sym, ap, ◌∙◌, arith}
 use Rattle.std.specs.Prelude.{if◌then◌else◌}
 use Rattle.std.specs.List.{range_with_len, list_any}
 use Rattle.std.proofs.lemmas.List.{length_push}
@@ -12,7 +13,8 @@ use Rattle.rv_arch.specs.declared.outcome.RefStep.TheVariants as step
 use Rattle.rv_arch.specs.declared.outcome.RefOutcome.{RefOutcome}
 use Rattle.rv_arch.specs.declared.outcome.Stop.TheVariants as stop
 use Rattle.rv_arch.specs.Machine.{Machine}
-use Rattle.rv_arch.specs.Run.{Run, ended, is_stale, is_breakpoint, is_retired, is_trap, is_interrupt, count_of, lines_through}
+use Rattle.rv_arch.specs.Run.{Run, ended, is_stale, is_breakpoint, is_retired}
+use Rattle.rv_arch.specs.Run.{is_trap, is_interrupt, count_of, lines_through}
 use Rattle.rv_arch.specs.RunOutcome.{HasNoBreakpoint, IsRunTo}
 use Rattle.rv_arch.specs.Step.{Step}
 use Rattle.rv_arch.proofs.Runs.{run_more, count_of_more, lines_through_more, range_more}

@@ -19,7 +19,8 @@ use Rattle.rv_arch.specs.Effect.{Effect, effect, Retires, Faults}
 use Rattle.rv_memory.specs.Memory.{Layout, is_in_ram, is_writable, is_aligned}
 use Rattle.rv_arch.specs.Run.{is_retired}
 use Rattle.rv_arch.specs.State.{State, register_of}
-use Rattle.rv_arch.specs.Step.{Step, IsFetched, word_at_pc, trap_taken, interrupted, unfetched, stale, illegal, faulted, retired}
+use Rattle.rv_arch.specs.Step.{Step, IsFetched, word_at_pc, trap_taken, interrupted}
+use Rattle.rv_arch.specs.Step.{unfetched, stale, illegal, faulted, retired}
 use Rattle.rv_arch.specs.Trap.{interrupt_cause}
 
 -- a load or a store that isn't refused for its alignment or its range lies in the range

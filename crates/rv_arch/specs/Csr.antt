@@ -1,8 +1,10 @@
-use Rattle.std.specs.Prelude.{ℕ, ◌+◌, ◌-◌, ◌*◌, ◌/◌, ◌%◌, ◌^◌, ◌==◌, ◌&&◌, Bool, true, false, not, if◌then◌else◌, Option, None, bit_and, bit_or, nat_lt}
+use Rattle.std.specs.Prelude.{ℕ, ◌+◌, ◌-◌, ◌*◌, ◌/◌, ◌%◌, ◌^◌, ◌==◌, ◌&&◌, Bool, true, false}
+use Rattle.std.specs.Prelude.{not, if◌then◌else◌, Option, None, bit_and, bit_or, nat_lt}
 use Rattle.std.specs.Option.{option_map}
 use Rattle.rv_isa.specs.declared.{lines.Lines.Lines, operations.CsrOp.CsrOp, csrs.Csr.Csr}
 use Rattle.rv_isa.specs.declared.operations.CsrOp.TheVariants.{Write, Set, Clear}
-use Rattle.rv_isa.specs.declared.csrs.Csr.TheVariants.{Mstatus, Misa, Mie, Mtvec, Mstatush, Mscratch, Mepc, Mcause, Mtval, Mip, Mvendorid, Marchid, Mimpid, Mhartid, Mconfigptr}
+use Rattle.rv_isa.specs.declared.csrs.Csr.TheVariants.{Mstatus, Misa, Mie, Mtvec, Mstatush, Mscratch, Mepc, Mcause}
+use Rattle.rv_isa.specs.declared.csrs.Csr.TheVariants.{Mtval, Mip, Mvendorid, Marchid, Mimpid, Mhartid, Mconfigptr}
 use Rattle.rv_isa.specs.Csr.{csr_at}
 use Rattle.rv_arch.specs.declared.csr.CsrOperand.{CsrOperand}
 

@@ -1,12 +1,18 @@
-use Rattle.std.specs.Prelude.{ℕ, ◌+◌, ◌-◌, ◌*◌, ◌/◌, ◌^◌, ◌==◌, ◌&&◌, Bool, not, if◌then◌else◌, nat_le, List, slice_index, Option, Some, None}
+use Rattle.std.specs.Prelude.{ℕ, ◌+◌, ◌-◌, ◌*◌, ◌/◌, ◌^◌, ◌==◌, ◌&&◌, Bool, not}
+use Rattle.std.specs.Prelude.{if◌then◌else◌, nat_le, List, slice_index, Option, Some, None}
 use Rattle.std.specs.FinSet as set
 use Rattle.rv_isa.specs.Arithmetic.{value_of}
 use Rattle.rv_isa.specs.Comparison.{holds}
 use Rattle.rv_isa.specs.Operation.{bytes_of, width_of, is_sign_extended, immediate_operation, shift_operation}
 use Rattle.rv_isa.specs.Word.{modulo_word, sum, pc_plus, pc_plus_4}
-use Rattle.rv_isa.specs.declared.{causes.Cause.Cause, instructions.Instr.Instr, instructions.CsrSource.CsrSource, operations.LoadForm.LoadForm, operations.Width.Width, lines.Lines.Lines}
-use Rattle.rv_isa.specs.declared.causes.Cause.TheVariants.{InstructionAddressMisaligned, IllegalInstruction, Breakpoint, LoadAddressMisaligned, LoadAccessFault, StoreAddressMisaligned, StoreAccessFault, EnvironmentCall}
-use Rattle.rv_isa.specs.declared.instructions.Instr.TheVariants.{Lui, Auipc, Jal, Jalr, Branch, Load, Store, OpImmediate, Shift, Op, Fence, FenceI, Csr, Ecall, Ebreak, Mret, Wfi}
+use Rattle.rv_isa.specs.declared.{causes.Cause.Cause, instructions.Instr.Instr, instructions.CsrSource.CsrSource}
+use Rattle.rv_isa.specs.declared.{operations.LoadForm.LoadForm, operations.Width.Width, lines.Lines.Lines}
+use Rattle.rv_isa.specs.declared.causes.Cause.TheVariants.{InstructionAddressMisaligned, IllegalInstruction}
+use Rattle.rv_isa.specs.declared.causes.Cause.TheVariants.{Breakpoint, LoadAddressMisaligned, LoadAccessFault}
+use Rattle.rv_isa.specs.declared.causes.Cause.TheVariants.{StoreAddressMisaligned, StoreAccessFault, EnvironmentCall}
+use Rattle.rv_isa.specs.declared.instructions.Instr.TheVariants.{Lui, Auipc, Jal, Jalr, Branch, Load}
+use Rattle.rv_isa.specs.declared.instructions.Instr.TheVariants.{Store, OpImmediate, Shift, Op, Fence}
+use Rattle.rv_isa.specs.declared.instructions.Instr.TheVariants.{FenceI, Csr, Ecall, Ebreak, Mret, Wfi}
 use Rattle.rv_isa.specs.declared.instructions.CsrSource.TheVariants.{Register, Immediate}
 use Rattle.rv_arch.specs.declared.csr.CsrOperand.{CsrOperand}
 use Rattle.rv_arch.specs.Csr.{Kept, access}

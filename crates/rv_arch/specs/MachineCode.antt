@@ -1,6 +1,7 @@
 -- How machines are distinguished, as the tuples of their fields; no public clause names these.
 use Rattle.std.specs.Prelude.{ℕ, Bool, List, refl}
-use Rattle.std.specs.{Coded.Coded, Coded.code_by, Coded.coded×, Coded.coded_ℕ, Coded.coded_bool, Coded.coded_list, Ordering.nat_cmp}
+use Rattle.std.specs.{Coded.Coded, Coded.code_by, Coded.coded×, Coded.coded_ℕ}
+use Rattle.std.specs.{Coded.coded_bool, Coded.coded_list, Ordering.nat_cmp}
 use Rattle.std.specs.FinSet as set
 use Rattle.rv_isa.specs.declared.lines.Lines.{Lines}
 use Rattle.rv_memory.specs.Memory.{Layout}

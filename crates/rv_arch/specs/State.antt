@@ -1,4 +1,5 @@
-use Rattle.std.specs.Prelude.{◌≡◌, ℕ, ◌==◌, ◌*◌, ◌%◌, if◌then◌else◌, List, length, slice_index, slice_set, IsTrue, Option, Some, None}
+use Rattle.std.specs.Prelude.{◌≡◌, ℕ, ◌==◌, ◌*◌, ◌%◌, if◌then◌else◌, List, length}
+use Rattle.std.specs.Prelude.{slice_index, slice_set, IsTrue, Option, Some, None}
 use Rattle.std.specs.Ordering.{nat_cmp}
 use Rattle.std.specs.FinSet as set
 use Rattle.rv_memory.specs.Memory.{Layout, is_in_ram}

@@ -1,5 +1,6 @@
 ghost use Rattle.std.specs.Prelude.{◌≡◌, ◌%◌, ◌<◌};
-ghost use Rattle.rv_arch.specs.Csr.{has_bit, bit, interrupt_bits, interrupts_of, legal_mtvec, legal_mepc, does_write, is_read_only, new_value};
+ghost use Rattle.rv_arch.specs.Csr.{has_bit, bit, interrupt_bits, interrupts_of, legal_mtvec};
+ghost use Rattle.rv_arch.specs.Csr.{legal_mepc, does_write, is_read_only, new_value};
 
 use rv_isa::{CsrOp, Lines};
 

@@ -1,5 +1,6 @@
 -- The operands of data, piece by piece.
-use Rattle.std.proofs.Common.{◌≡◌, ◌∙◌, ◌<◌, List, [], ◌∷◌, map, length, Bool, true, false, ◌&&◌, Option, None, Some, Ok, Err, ok_or, unwrap_or, pos, option_and_then, refl, ap, sym, arith}
+use Rattle.std.proofs.Common.{◌≡◌, ◌∙◌, ◌<◌, List, [], ◌∷◌, map, length, Bool, true, false, ◌&&◌, Option, None}
+use Rattle.std.proofs.Common.{Some, Ok, Err, ok_or, unwrap_or, pos, option_and_then, refl, ap, sym, arith}
 use Rattle.std.specs.List.{list_all, slice_split}
 use Rattle.std.specs.Option.{option_map, option_map_or}
 use Rattle.std.proofs.lemmas.List.{length-map}

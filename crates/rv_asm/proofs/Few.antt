@@ -1,5 +1,6 @@
 -- A statement that is no data has three operands at most.
-use Rattle.std.proofs.Common.{◌≡◌, ◌≢◌, ◌∙◌, ◌<◌, ◌≤◌, ◌==◌, ℕ, suc, List, [], ◌∷◌, map, length, Bool, true, false, cond, Option, None, Some, Result, Ok, Err, IfErr, ok_or, option_and_then, refl, ap, arith}
+use Rattle.std.proofs.Common.{◌≡◌, ◌≢◌, ◌∙◌, ◌<◌, ◌≤◌, ◌==◌, ℕ, suc, List, [], ◌∷◌, map, length, Bool, true, false}
+use Rattle.std.proofs.Common.{cond, Option, None, Some, Result, Ok, Err, IfErr, ok_or, option_and_then, refl, ap, arith}
 use Rattle.std.specs.List.{slice_split}
 use Rattle.std.specs.Option.{option_map, option_map_or}
 use Rattle.std.specs.Result.{result_err}
@@ -8,9 +9,12 @@ use Rattle.rv_asm.specs.Faults.{is_unmet, moved}
 use Rattle.rv_asm.specs.Layout.{Meanings, advance, unless_too_large}
 use Rattle.rv_asm.specs.Operand.{Operand, Value, Number, Symbol, is_comma, operand, operands_in}
 use Rattle.rv_asm.specs.Read.{token_of}
-use Rattle.rv_asm.specs.Statement.{Instruction, and_then, fill, imply, instruction, is_data, is_implied, jal_places, jalr_places, needed, operands_read, put, statement, takes}
+use Rattle.rv_asm.specs.Statement.{Instruction, and_then, fill, imply, instruction, is_data, is_implied}
+use Rattle.rv_asm.specs.Statement.{jal_places, jalr_places, needed, operands_read, put, statement, takes}
 use Rattle.rv_asm.specs.Token as spec
-use Rattle.rv_asm.specs.declared.{fault.AsmFault.AsmFault, operation.Fields.Fields, operation.Form.Form, operation.Operation.Operation, operation.Place.Place, reach.Reach.Reach, token.Token.Token}
+use Rattle.rv_asm.specs.declared.{fault.AsmFault.AsmFault, operation.Fields.Fields}
+use Rattle.rv_asm.specs.declared.{operation.Form.Form, operation.Operation.Operation}
+use Rattle.rv_asm.specs.declared.{operation.Place.Place, reach.Reach.Reach, token.Token.Token}
 use Rattle.rv_asm.specs.declared.fault.AsmFault.TheVariants.{BadOperands, Memory}
 use Rattle.rv_asm.specs.declared.operation.Form.TheVariants as form
 use Rattle.rv_asm.specs.declared.operation.Operation.TheVariants as operation

@@ -1,5 +1,6 @@
 -- What is kept of the lines gives the same image and the same fault as all of them.
-use Rattle.std.proofs.Common.{◌≡◌, ◌∙◌, ℕ, ◌+◌, List, [], ◌∷◌, ◌++◌, map, Bool, true, false, cond, Result, Ok, refl, ap, subst, ◌==◌, arith}
+use Rattle.std.proofs.Common.{◌≡◌, ◌∙◌, ℕ, ◌+◌, List, [], ◌∷◌, ◌++◌, map, Bool, true}
+use Rattle.std.proofs.Common.{false, cond, Result, Ok, refl, ap, subst, ◌==◌, arith}
 use Rattle.std.specs.List.{slice_split}
 use Rattle.std.specs.Option.{option_map, option_or}
 use Rattle.rv_asm.specs.Faults.{earliest, second_fault, second_fault_of}

@@ -2,7 +2,8 @@
 use Rattle.std.proofs.Common.{◌≡◌, ◌+◌, ◌≤◌, ℕ, List, [], ◌∷◌, Result, Ok, Err, true, ◌∙◌, refl, ap, arith}
 use Rattle.rv_asm.specs.Kept.{is_idle}
 use Rattle.rv_asm.proofs.Kept.{idle_says_nothing}
-use Rattle.rv_asm.specs.Layout.{Line, Unreadable, Readable, Layout, Meanings, after_statement, extended, grow_in, laid, labelled, label_at, offset, offset_in, size, statement_in}
+use Rattle.rv_asm.specs.Layout.{Line, Unreadable, Readable, Layout, Meanings, after_statement, extended}
+use Rattle.rv_asm.specs.Layout.{grow_in, laid, labelled, label_at, offset, offset_in, size, statement_in}
 use Rattle.rv_asm.specs.Placed.{place}
 use Rattle.rv_asm.specs.Statement.{Statement, Choice}
 use Rattle.rv_asm.specs.declared.{fault.AsmFault.AsmFault, operation.Section.Section, reach.Reach.Reach}

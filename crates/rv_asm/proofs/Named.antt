@@ -1,5 +1,6 @@
 -- The names that tables hold.
-use Rattle.std.proofs.Common.{◌≡◌, ◌∙◌, ◌+◌, ◌<◌, Bor, cond, drop, false, get_or, length, map, sym, ℕ, List, [], ◌∷◌, true, Some, None, Option, refl, ap, arith, IsSome, IfSome, ◌↔◌}
+use Rattle.std.proofs.Common.{◌≡◌, ◌∙◌, ◌+◌, ◌<◌, Bor, cond, drop, false, get_or, length, map, sym, ℕ, List}
+use Rattle.std.proofs.Common.{[], ◌∷◌, true, Some, None, Option, refl, ap, arith, IsSome, IfSome, ◌↔◌}
 use Rattle.std.specs.Prelude.{nat_lt}
 use Rattle.std.specs.List.{list_all}
 use Rattle.std.specs.Str.{bytes_eq}

@@ -1,5 +1,6 @@
 -- The next of the lines that the program keeps.
-use Rattle.std.proofs.Common.{◌≡◌, ◌∙◌, ◌+◌, ◌<◌, ℕ, List, [], ◌∷◌, ◌++◌, drop, get_or, length, replicate, Option, Some, refl, ap, arith}
+use Rattle.std.proofs.Common.{◌≡◌, ◌∙◌, ◌+◌, ◌<◌, ℕ, List, [], ◌∷◌, ◌++◌, drop, get_or}
+use Rattle.std.proofs.Common.{length, replicate, Option, Some, refl, ap, arith}
 use Rattle.std.specs.Option.{option_map, option_or}
 use Rattle.std.proofs.lemmas.List.{drop_more}
 use Rattle.rv_asm.proofs.Emitted.{Begins, begins_more}
@@ -10,7 +11,8 @@ use Rattle.rv_asm.specs.Listing.{reach_before, shown, words_between, words_in}
 use Rattle.rv_asm.specs.Meaning.{Cell, contents, line_cells, parts_in}
 use Rattle.rv_asm.specs.Placed.{Placed}
 use Rattle.rv_asm.specs.Symbols.{kept_in, lines_in, placed_of}
-use Rattle.rv_asm.specs.declared.{fault.AsmFault.AsmFault, operation.Section.Section, reach.Reach.Reach, record.Record.Record}
+use Rattle.rv_asm.specs.declared.{fault.AsmFault.AsmFault, operation.Section.Section}
+use Rattle.rv_asm.specs.declared.{reach.Reach.Reach, record.Record.Record}
 
 module _ (items : List Record) (i : ℕ) (d : Record) (within : i < length items) where
   -- its fault goes before those of the others

@@ -1,11 +1,14 @@
 -- The operands that tokens spell, piece by piece.
-use Rattle.std.proofs.Common.{rules, ◌≡◌, ◌≢◌, ◌∙◌, ◌<◌, ◌≤◌, ◌-◌, ℕ, None, drop, arith, length, List, [], ◌∷◌, ◌++◌, map, Bool, true, false, cond, Some, Option, Result, Ok, Err, IfOk, Bor, sym, refl, ap, option_and_then}
+use Rattle.std.proofs.Common.{rules, ◌≡◌, ◌≢◌, ◌∙◌, ◌<◌, ◌≤◌, ◌-◌, ℕ, None, drop, arith, length}
+use Rattle.std.proofs.Common.{List, [], ◌∷◌, ◌++◌, map, Bool, true, false, cond, Some, Option}
+use Rattle.std.proofs.Common.{Result, Ok, Err, IfOk, Bor, sym, refl, ap, option_and_then}
 use Rattle.std.specs.Global.{Vec}
 use Rattle.std.specs.List.{slice_split, onto_first}
 use Rattle.std.specs.Option.{option_map}
 use Rattle.std.proofs.lemmas.List.{map-append}
 use Rattle.std.proofs.lemmas.Simd.{map-map}
-use Rattle.rv_asm.specs.Operand.{Expression, Operand, Indirect, Value, based, expression, in_parentheses, operand, operands_in, operands_of, is_comma}
+use Rattle.rv_asm.specs.Operand.{Expression, Operand, Indirect, Value, based, expression}
+use Rattle.rv_asm.specs.Operand.{in_parentheses, operand, operands_in, operands_of, is_comma}
 use Rattle.rv_asm.specs.Read.{operand_of, token_of}
 use Rattle.rv_asm.specs.Token as spec
 use Rattle.rv_asm.specs.Token.{LeftParenthesis, Name, RightParenthesis}

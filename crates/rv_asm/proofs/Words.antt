@@ -1,5 +1,6 @@
 -- The words of the lines that are kept are those of all lines.
-use Rattle.std.proofs.Common.{◌≡◌, ◌∙◌, ◌+◌, ◌-◌, ◌*◌, ◌<◌, ◌≤◌, ◌==◌, ℕ, List, [], ◌∷◌, ◌++◌, map, replicate, Bool, true, false, cond, ◌&&◌, Option, Some, refl, ap, sym, arith}
+use Rattle.std.proofs.Common.{◌≡◌, ◌∙◌, ◌+◌, ◌-◌, ◌*◌, ◌<◌, ◌≤◌, ◌==◌, ℕ, List, [], ◌∷◌, ◌++◌, map}
+use Rattle.std.proofs.Common.{replicate, Bool, true, false, cond, ◌&&◌, Option, Some, refl, ap, sym, arith}
 use Rattle.std.specs.Prelude.{nat_le, nat_lt}
 use Rattle.std.specs.List.{range_with_len, slice_split}
 use Rattle.std.proofs.lemmas.Bool.Decides.{nat_tests}
@@ -9,7 +10,8 @@ use Rattle.rv_asm.proofs.Moves.{idle_stays, line_grows, lines_grow, place_reach}
 use Rattle.rv_asm.proofs.Ranges.{split_range}
 use Rattle.rv_asm.specs.Kept.{Kept, is_idle, kept}
 use Rattle.rv_asm.specs.Layout.{Layout, extended, laid, layout, line_in, lines_of, offset_in, unlaid}
-use Rattle.rv_asm.specs.Listing.{line_holding, lines_after_text, listing_of, reach_before, shown, word_count, words_between, words_in}
+use Rattle.rv_asm.specs.Listing.{line_holding, lines_after_text, listing_of, reach_before}
+use Rattle.rv_asm.specs.Listing.{shown, word_count, words_between, words_in}
 use Rattle.rv_asm.specs.Placed.{place}
 use Rattle.rv_asm.specs.declared.{operation.Section.Section, reach.Reach.Reach}
 use Rattle.rv_asm.specs.declared.operation.Section.TheVariants.{Text, Data}

@@ -1,7 +1,9 @@
 -- The names of the faults, as they are printed.
 use Rattle.std.specs.Prelude.{ℕ, List, codes}
 use Rattle.rv_asm.specs.declared.fault.AsmFault.{AsmFault}
-use Rattle.rv_asm.specs.declared.fault.AsmFault.TheVariants.{BadToken, UnknownMnemonic, BadOperands, BadRegister, DuplicateSymbol, TooLarge, UnknownSymbol, OutOfRange, Misaligned, Memory}
+use Rattle.rv_asm.specs.declared.fault.AsmFault.TheVariants.{BadToken, UnknownMnemonic, BadOperands}
+use Rattle.rv_asm.specs.declared.fault.AsmFault.TheVariants.{BadRegister, DuplicateSymbol, TooLarge}
+use Rattle.rv_asm.specs.declared.fault.AsmFault.TheVariants.{UnknownSymbol, OutOfRange, Misaligned, Memory}
 
 -- the name of a fault
 unfoldable pub fault_name : AsmFault → List ℕ

@@ -1,14 +1,17 @@
 -- The fault of a text.
-use Rattle.std.specs.Prelude.{ℕ, ◌+◌, ◌%◌, ◌==◌, List, [], ◌∷◌, map, Bool, false, ◌&&◌, if◌then◌else◌, Option, Some, None, Result, Err, is_some, is_none, codes}
+use Rattle.std.specs.Prelude.{ℕ, ◌+◌, ◌%◌, ◌==◌, List, [], ◌∷◌, map, Bool, false, ◌&&◌, if◌then◌else◌}
+use Rattle.std.specs.Prelude.{Option, Some, None, Result, Err, is_some, is_none, codes}
 use Rattle.std.specs.{Option.option_map, Option.option_or, Result.result_err, Str.bytes_eq}
-use Rattle.rv_asm.specs.Layout.{Line, Unreadable, Readable, Meanings, Layout, advance, defined, extended, label_at, labelled, layout, number_of, unlaid, unless_too_large}
+use Rattle.rv_asm.specs.Layout.{Line, Unreadable, Readable, Meanings, Layout, advance, defined, extended}
+use Rattle.rv_asm.specs.Layout.{label_at, labelled, layout, number_of, unlaid, unless_too_large}
 use Rattle.rv_asm.specs.Meaning.{line_cells, start_address}
 use Rattle.rv_asm.specs.Operand.{Operand}
 use Rattle.rv_asm.specs.Placed.{Placed, placed}
 use Rattle.rv_asm.specs.Statement.{and_then, statement, needed, reading}
 use Rattle.rv_asm.specs.Token.{Token}
 use Rattle.rv_asm.specs.Token as token
-use Rattle.rv_asm.specs.declared.{fault.AsmFault.AsmFault, reach.Reach.Reach, operation.Form.Form, symbols.Definition.Definition}
+use Rattle.rv_asm.specs.declared.{fault.AsmFault.AsmFault, reach.Reach.Reach}
+use Rattle.rv_asm.specs.declared.{operation.Form.Form, symbols.Definition.Definition}
 use Rattle.rv_asm.specs.declared.fault.AsmFault.TheVariants.{BadToken, BadOperands, DuplicateSymbol, Misaligned}
 
 -- the fault of labels: one of them was defined before, or stands twice

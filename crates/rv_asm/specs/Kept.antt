@@ -1,6 +1,7 @@
 -- The lines that the program keeps: those with a statement, and those that define _start. No public clause names these.
 use denote.Ref.{Bor}
-use Rattle.std.specs.Prelude.{ℕ, ◌+◌, ◌==◌, ◌&&◌, List, [], ◌∷◌, ◌++◌, map, Bool, true, false, not, if◌then◌else◌, Option, None, Some, Result, Ok}
+use Rattle.std.specs.Prelude.{ℕ, ◌+◌, ◌==◌, ◌&&◌, List, [], ◌∷◌, ◌++◌, map, Bool, true}
+use Rattle.std.specs.Prelude.{false, not, if◌then◌else◌, Option, None, Some, Result, Ok}
 use Rattle.std.specs.{List.slice_split, Option.option_map, Option.option_or}
 use Rattle.rv_asm.specs.Layout.{Layout, extended, line_in}
 use Rattle.rv_asm.specs.Placed.{Placed, place}

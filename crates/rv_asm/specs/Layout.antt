@@ -1,5 +1,6 @@
 -- Where the statements of a text stand, and what its symbols are.
-use Rattle.std.specs.Prelude.{ℕ, ℤ, pos, negsuc, ◌+◌, ◌*◌, ◌+ℤ◌, ◌-ℤ◌, List, [], ◌∷◌, length, map, if◌then◌else◌, ◌==◌, nat_lt, Option, Some, None, Result, Ok, Err, ok_or, unwrap_or, unsigned_abs}
+use Rattle.std.specs.Prelude.{ℕ, ℤ, pos, negsuc, ◌+◌, ◌*◌, ◌+ℤ◌, ◌-ℤ◌, List, [], ◌∷◌, length, map, if◌then◌else◌}
+use Rattle.std.specs.Prelude.{◌==◌, nat_lt, Option, Some, None, Result, Ok, Err, ok_or, unwrap_or, unsigned_abs}
 use Rattle.std.specs.{List.slice_split, Map.update, Str.bytes_eq, Int.int_div_euclid, Int.int_rem_euclid}
 use Rattle.rv_isa.specs.Operation.{bytes_of}
 use Rattle.rv_isa.specs.Word.{signed, modulo_word}
@@ -8,10 +9,12 @@ use Rattle.rv_isa.specs.declared.instructions.Instr.TheVariants.{Lui, Auipc, OpI
 use Rattle.rv_isa.specs.declared.operations.ImmediateOp.TheVariants.{Addi}
 use Rattle.rv_asm.specs.Directive.{laid_by}
 use Rattle.rv_asm.specs.Operand.{Expression, Number, Symbol, Sum}
-use Rattle.rv_asm.specs.Statement.{Statement, Choice, Constant, Instruction, Values, Bytes, and_then, reading, statement, is_between}
+use Rattle.rv_asm.specs.Statement.{Statement, Choice, Constant, Instruction, Values}
+use Rattle.rv_asm.specs.Statement.{Bytes, and_then, reading, statement, is_between}
 use Rattle.rv_asm.specs.Token.{Token, tokens_of}
 use Rattle.rv_asm.specs.Token as token
-use Rattle.rv_asm.specs.declared.{fault.AsmFault.AsmFault, operation.Fields.Fields, operation.Operation.Operation, operation.Section.Section, reach.Reach.Reach, symbols.Definition.Definition}
+use Rattle.rv_asm.specs.declared.{fault.AsmFault.AsmFault, operation.Fields.Fields, operation.Operation.Operation}
+use Rattle.rv_asm.specs.declared.{operation.Section.Section, reach.Reach.Reach, symbols.Definition.Definition}
 use Rattle.rv_asm.specs.declared.fault.AsmFault.TheVariants.{BadToken, TooLarge}
 use Rattle.rv_asm.specs.declared.operation.Operation.TheVariants as operation
 use Rattle.rv_asm.specs.declared.operation.Section.TheVariants.{Text, Data}

@@ -1,6 +1,8 @@
 -- Which line of a text each word of its image comes from.
-use Rattle.std.specs.Prelude.{ℕ, ◌+◌, ◌-◌, ◌*◌, ◌/◌, List, [], ◌∷◌, ◌++◌, map, length, take, drop, replicate, ◌&&◌, ◌==◌, nat_le, nat_lt, if◌then◌else◌, get_or, Option, Some, None}
-use Rattle.std.specs.{Char.is_ascii_whitespace, List.before_first, List.prefix_len, List.suffix_len, List.range_with_len, List.slice_split}
+use Rattle.std.specs.Prelude.{ℕ, ◌+◌, ◌-◌, ◌*◌, ◌/◌, List, [], ◌∷◌, ◌++◌, map, length, take, drop, replicate}
+use Rattle.std.specs.Prelude.{◌&&◌, ◌==◌, nat_le, nat_lt, if◌then◌else◌, get_or, Option, Some, None}
+use Rattle.std.specs.{Char.is_ascii_whitespace, List.before_first, List.prefix_len}
+use Rattle.std.specs.{List.suffix_len, List.range_with_len, List.slice_split}
 use Rattle.rv_source.specs.Listing as source
 use Rattle.rv_source.specs.Listing.{Listed}
 use Rattle.rv_asm.specs.Kept.{Kept}

@@ -1,5 +1,7 @@
 -- What a text without a fault means: its bytes, and where execution starts.
-use Rattle.std.specs.Prelude.{◌≡◌, ℕ, ℤ, pos, negsuc, ◌+◌, ◌-◌, ◌*◌, ◌/◌, ◌%◌, ◌+ℤ◌, ◌-ℤ◌, List, [], ◌∷◌, ◌++◌, map, take, replicate, Bool, if◌then◌else◌, ◌==◌, Option, Some, Result, Ok, Err, ok_or, unwrap_or, is_some, unsigned_abs, codes}
+use Rattle.std.specs.Prelude.{◌≡◌, ℕ, ℤ, pos, negsuc, ◌+◌, ◌-◌, ◌*◌, ◌/◌, ◌%◌, ◌+ℤ◌, ◌-ℤ◌, List, []}
+use Rattle.std.specs.Prelude.{◌∷◌, ◌++◌, map, take, replicate, Bool, if◌then◌else◌, ◌==◌, Option}
+use Rattle.std.specs.Prelude.{Some, Result, Ok, Err, ok_or, unwrap_or, is_some, unsigned_abs, codes}
 use Rattle.std.specs.{List.list_all, Option.option_map, Int.to_le_bytes, Int.w32}
 use Rattle.rv_decode.specs.Decodes.{Decodes}
 use Rattle.rv_isa.specs.Operation.{bytes_of}
@@ -14,7 +16,9 @@ use Rattle.rv_asm.specs.Mnemonic.{bare_instruction}
 use Rattle.rv_asm.specs.Operand.{Expression, Number, Symbol, Sum, Operand}
 use Rattle.rv_asm.specs.Placed.{Placed, placed}
 use Rattle.rv_asm.specs.Statement.{Statement, Instruction, Values, Bytes, and_then, is_between, expression_in}
-use Rattle.rv_asm.specs.declared.{fault.AsmFault.AsmFault, reach.Reach.Reach, operation.Fields.Fields, operation.Operation.Operation, operation.Section.Section, symbols.Definition.Definition}
+use Rattle.rv_asm.specs.declared.{fault.AsmFault.AsmFault, reach.Reach.Reach}
+use Rattle.rv_asm.specs.declared.{operation.Fields.Fields, operation.Operation.Operation}
+use Rattle.rv_asm.specs.declared.{operation.Section.Section, symbols.Definition.Definition}
 use Rattle.rv_asm.specs.declared.fault.AsmFault.TheVariants.{UnknownSymbol, OutOfRange, Misaligned}
 use Rattle.rv_asm.specs.declared.operation.Operation.TheVariants as operation
 use Rattle.rv_asm.specs.declared.operation.Section.TheVariants.{Text, Data}

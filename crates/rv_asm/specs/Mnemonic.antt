@@ -12,12 +12,16 @@ use Rattle.rv_isa.specs.declared.operations.ShiftOp.TheVariants as shift
 use Rattle.rv_isa.specs.declared.operations.Width.TheVariants as width
 use Rattle.rv_asm.specs.Names.{named}
 use Rattle.rv_asm.specs.declared.directive.Directive.TheVariants.{Zeros, Align, Characters}
-use Rattle.rv_asm.specs.declared.{mnemonic.BareInstruction.BareInstruction, operation.Form.Form, operation.Operation.Operation, operation.Place.Place}
+use Rattle.rv_asm.specs.declared.{mnemonic.BareInstruction.BareInstruction, operation.Form.Form}
+use Rattle.rv_asm.specs.declared.{operation.Operation.Operation, operation.Place.Place}
 use Rattle.rv_asm.specs.declared.mnemonic.BareInstruction.TheVariants.{Fence, FenceI, Ecall, Ebreak, Mret, Wfi}
 use Rattle.rv_asm.specs.declared.operation.Form.TheVariants as form
 use Rattle.rv_asm.specs.declared.operation.Form.TheVariants.{Instruction, Choice, Values, Bytes}
-use Rattle.rv_asm.specs.declared.operation.Operation.TheVariants.{Lui, Auipc, Jal, Jalr, Branch, Load, Store, OpImmediate, Shift, Op, Bare, Csr, CsrImmediate, LoadNumber, LoadAddress}
-use Rattle.rv_asm.specs.declared.operation.Place.TheVariants.{Rd, Rs1, Rs2, Value, Known, Target, Address, Csr as Csr', UpTo, Multiple, Text, Link, Return, One, MinusOne, Empty}
+use Rattle.rv_asm.specs.declared.operation.Operation.TheVariants.{Lui, Auipc, Jal, Jalr, Branch, Load}
+use Rattle.rv_asm.specs.declared.operation.Operation.TheVariants.{Store, OpImmediate, Shift, Op, Bare, Csr}
+use Rattle.rv_asm.specs.declared.operation.Operation.TheVariants.{CsrImmediate, LoadNumber, LoadAddress}
+use Rattle.rv_asm.specs.declared.operation.Place.TheVariants.{Rd, Rs1, Rs2, Value, Known, Target, Address, Csr as Csr'}
+use Rattle.rv_asm.specs.declared.operation.Place.TheVariants.{UpTo, Multiple, Text, Link, Return, One, MinusOne, Empty}
 use Rattle.rv_asm.specs.declared.operation.Section.TheVariants as section
 
 -- an instruction without operands

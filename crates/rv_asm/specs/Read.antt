@@ -8,7 +8,8 @@ use Rattle.rv_asm.specs.Operand as spec
 use Rattle.rv_asm.specs.Operand.{is_comma, operand}
 use Rattle.rv_asm.specs.Statement as stated
 use Rattle.rv_asm.specs.Statement.{takes}
-use Rattle.rv_asm.specs.declared.{token.Token.Token, token.Lexeme.Lexeme, operand.Expression.Expression, operand.Operand.Operand, statement.Statement.Statement}
+use Rattle.rv_asm.specs.declared.{token.Token.Token, token.Lexeme.Lexeme, operand.Expression.Expression}
+use Rattle.rv_asm.specs.declared.{operand.Operand.Operand, statement.Statement.Statement}
 use Rattle.rv_asm.specs.declared.token.Token.TheVariants as read
 use Rattle.rv_asm.specs.declared.operand.Expression.TheVariants.{Number, Symbol, Sum}
 use Rattle.rv_asm.specs.declared.operand.Operand.TheVariants.{Value, Indirect, Text}

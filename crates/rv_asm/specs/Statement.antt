@@ -1,5 +1,6 @@
 -- What a line says after its labels.
-use Rattle.std.specs.Prelude.{ℕ, ℤ, pos, negsuc, List, [], ◌∷◌, Bool, true, false, ◌&&◌, ◌||◌, if◌then◌else◌, length, Option, Some, None, Result, Ok, Err, int_le, is_some, ok_or, unwrap_or, ◌==◌}
+use Rattle.std.specs.Prelude.{ℕ, ℤ, pos, negsuc, List, [], ◌∷◌, Bool, true, false, ◌&&◌, ◌||◌, if◌then◌else◌}
+use Rattle.std.specs.Prelude.{length, Option, Some, None, Result, Ok, Err, int_le, is_some, ok_or, unwrap_or, ◌==◌}
 use Rattle.std.specs.{List.list_all, Option.option_map}
 use Rattle.rv_isa.specs.declared.operations.Width.{Width}
 use Rattle.rv_asm.specs.Mnemonic.{form_named}
@@ -7,7 +8,9 @@ use Rattle.rv_asm.specs.Names.{register_named, csr_named}
 use Rattle.rv_asm.specs.Operand.{Expression, Number, Symbol, Sum, Operand, Value, Indirect, Text, operands_of}
 use Rattle.rv_asm.specs.Token.{Token}
 use Rattle.rv_asm.specs.Token as token
-use Rattle.rv_asm.specs.declared.{directive.Directive.Directive, fault.AsmFault.AsmFault, operation.Fields.Fields, operation.Form.Form, operation.Operation.Operation, operation.Place.Place, operation.Section.Section}
+use Rattle.rv_asm.specs.declared.{directive.Directive.Directive, fault.AsmFault.AsmFault}
+use Rattle.rv_asm.specs.declared.{operation.Fields.Fields, operation.Form.Form, operation.Operation.Operation}
+use Rattle.rv_asm.specs.declared.{operation.Place.Place, operation.Section.Section}
 use Rattle.rv_asm.specs.declared.fault.AsmFault.TheVariants.{UnknownMnemonic, BadOperands, BadRegister}
 use Rattle.rv_asm.specs.declared.operation.Form.TheVariants as form
 use Rattle.rv_asm.specs.declared.operation.Operation.TheVariants as operation

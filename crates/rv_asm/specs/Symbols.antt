@@ -7,7 +7,8 @@ use Rattle.rv_asm.specs.Layout.{Layout, line_in}
 use Rattle.rv_asm.specs.Meaning.{Cell, after_text, cells_at, contents, value_of}
 use Rattle.rv_asm.specs.Placed.{Placed, place}
 use Rattle.rv_asm.specs.Statement.{Statement}
-use Rattle.rv_asm.specs.declared.{fault.AsmFault.AsmFault, record.Record.Record, program.Program.Program, reach.Reach.Reach, symbols.Definition.Definition, symbols.Symbols.Symbols}
+use Rattle.rv_asm.specs.declared.{fault.AsmFault.AsmFault, record.Record.Record, program.Program.Program}
+use Rattle.rv_asm.specs.declared.{reach.Reach.Reach, symbols.Definition.Definition, symbols.Symbols.Symbols}
 use Rattle.rv_asm.specs.declared.operation.Section.TheVariants.{Text, Data}
 use Rattle.rv_asm.specs.declared.layout.Layout as read
 

@@ -1,6 +1,8 @@
 -- The tokens of a line of assembly text. Numbers are the codes of ASCII characters, which a comment shows.
-use Rattle.std.specs.Prelude.{ℕ, zero, suc, ◌+◌, ◌-◌, ◌==◌, ◌||◌, ◌&&◌, Bool, if◌then◌else◌, nat_lt, List, [], ◌∷◌, ◌++◌, length, take, drop, Option, Some, None, unwrap_or, is_some, option_and_then}
-use Rattle.std.specs.{List.take_while, List.list_all, Option.option_map, Option.option_to_list, Char.is_ascii_alphabetic, Char.is_ascii_digit, Char.is_digit, Str.Parse.digits_value}
+use Rattle.std.specs.Prelude.{ℕ, zero, suc, ◌+◌, ◌-◌, ◌==◌, ◌||◌, ◌&&◌, Bool, if◌then◌else◌, nat_lt, List, [], ◌∷◌}
+use Rattle.std.specs.Prelude.{◌++◌, length, take, drop, Option, Some, None, unwrap_or, is_some, option_and_then}
+use Rattle.std.specs.{List.take_while, List.list_all, Option.option_map, Option.option_to_list}
+use Rattle.std.specs.{Char.is_ascii_alphabetic, Char.is_ascii_digit, Char.is_digit, Str.Parse.digits_value}
 
 -- a token: a name by its bytes, a number, the bytes that a string stands for, or a mark
 pub data Token : Type 0 where

@@ -1,5 +1,6 @@
 ghost use Rattle.std.specs.Prelude.{◌≡◌};
-ghost use Rattle.rv_asm.specs.Mnemonic.{bare_instruction, form_named, instructions, others, pseudo_instructions, shape_named};
+ghost use Rattle.rv_asm.specs.Mnemonic.{bare_instruction, form_named, instructions};
+ghost use Rattle.rv_asm.specs.Mnemonic.{others, pseudo_instructions, shape_named};
 ghost use Rattle.rv_asm.specs.Names.{named};
 
 use self::BareInstruction::{Ebreak, Ecall, Fence, FenceI, Mret, Wfi};

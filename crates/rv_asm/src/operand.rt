@@ -2,7 +2,8 @@ ghost use Rattle.std.specs.Prelude.{◌≡◌, ◌≢◌, ◌<◌, ◌≤◌, �
 ghost use Rattle.std.specs.List.{slice_split};
 ghost use Rattle.std.specs.Option.{option_map};
 ghost use Rattle.rv_asm.specs.Answer.{Follows};
-ghost use Rattle.rv_asm.specs.Operand.{Indirect, Value, expression, based, operand, operands_of, is_comma, operands_in as operands_spelled};
+ghost use Rattle.rv_asm.specs.Operand.{Indirect, Value, expression, based, operand};
+ghost use Rattle.rv_asm.specs.Operand.{operands_of, is_comma, operands_in as operands_spelled};
 ghost use Rattle.rv_asm.specs.Read.{expression_of, operand_of, operands_in, token_of, tokens_in};
 ghost use Rattle.rv_asm.specs.Token.{LeftParenthesis, Name, RightParenthesis};
 

@@ -6,7 +6,8 @@ ghost use Rattle.rv_asm.specs.Answer.{Follows};
 ghost use Rattle.rv_asm.specs.Layout.{statement_in};
 ghost use Rattle.rv_asm.specs.Operand.{is_comma};
 ghost use Rattle.rv_asm.specs.Read.{is_value, operands_in, statement_of, tokens_in};
-ghost use Rattle.rv_asm.specs.Statement.{and_then, instruction, is_data, jal_places, jalr_places, needed, operands_read, reading, statement, takes};
+ghost use Rattle.rv_asm.specs.Statement.{and_then, instruction, is_data, jal_places, jalr_places};
+ghost use Rattle.rv_asm.specs.Statement.{needed, operands_read, reading, statement, takes};
 
 use crate::directive::Directive;
 use crate::fault::AsmFault;

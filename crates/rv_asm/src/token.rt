@@ -3,7 +3,8 @@ ghost use Rattle.std.specs.List.{prefix_len};
 ghost use Rattle.std.specs.Option.{option_map};
 ghost use Rattle.rv_asm.specs.Answer.{Follows};
 ghost use Rattle.rv_asm.specs.Read.{lexeme_of, token_of, tokens_in};
-ghost use Rattle.rv_asm.specs.Token.{escape_of, quoted_length, unescaped, first_lexeme, string_lexeme, tokens_of, word_lexeme};
+ghost use Rattle.rv_asm.specs.Token.{escape_of, quoted_length, unescaped, first_lexeme};
+ghost use Rattle.rv_asm.specs.Token.{string_lexeme, tokens_of, word_lexeme};
 ghost use Rattle.rv_asm.specs.Token.{is_separator, begins_name, is_name_byte, mark_of, number_in, number_of};
 
 use crate::fault::AsmFault;

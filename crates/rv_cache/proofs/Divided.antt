@@ -1,9 +1,11 @@
 -- Lines that begin at multiples of their length.
-use Rattle.std.proofs.Common.{◌≡◌, ℕ, ◌+◌, ◌*◌, ◌/◌, ◌%◌, ◌<◌, ◌≤◌, ◌⊎◌, Bool, true, false, not, ◌&&◌, nat_eq, nat_le, refl, sym, ap, ◌∙◌, inl, inr, arith}
+use Rattle.std.proofs.Common.{◌≡◌, ℕ, ◌+◌, ◌*◌, ◌/◌, ◌%◌, ◌<◌, ◌≤◌, ◌⊎◌, Bool, true, false}
+use Rattle.std.proofs.Common.{not, ◌&&◌, nat_eq, nat_le, refl, sym, ap, ◌∙◌, inl, inr, arith}
 use Rattle.std.specs.Int.{is_power_of_two}
 use Rattle.std.proofs.Math.Nat.{mul-le-mul_right, mul_assoc, mul-add-mod_self_right, mod-lt, mod-eq_of_lt}
 use Rattle.std.proofs.lemmas.Nat.{div-add-mod', div-mul-add, div_below, le-div}
-use Rattle.std.proofs.lemmas.Bool.{agree_below_at, and_parts, and_from, and_cases, not-false, le-leb, eqb-true, false≢true}
+use Rattle.std.proofs.lemmas.Bool.{agree_below_at, and_parts, and_from, and_cases}
+use Rattle.std.proofs.lemmas.Bool.{not-false, le-leb, eqb-true, false≢true}
 use lib.Count.{ones, ones_in}
 use Rattle.rv_cache.specs.WriteBack.{IsInside}
 

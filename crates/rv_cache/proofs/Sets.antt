@@ -1,5 +1,6 @@
 -- What holds of each line and of each set.
-use Rattle.std.proofs.Common.{ℕ, Bool, true, false, List, [], ◌∷◌, get_or, set, take, map, replicate, filter, cond, suc, zero}
+use Rattle.std.proofs.Common.{ℕ, Bool, true, false, List, [], ◌∷◌, get_or, set}
+use Rattle.std.proofs.Common.{take, map, replicate, filter, cond, suc, zero}
 use Rattle.std.specs.Option.{IfSome}
 use Rattle.std.specs.List.{slice_get}
 use Rattle.rv_cache.specs.WriteBack.{Each}

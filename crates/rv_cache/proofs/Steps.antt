@@ -1,5 +1,7 @@
 -- What each call keeps of a cache's fields.
-use Rattle.std.proofs.Common.{◌≡◌, ◌≢◌, ℕ, ◌+◌, ◌-◌, ◌/◌, ◌%◌, ◌<◌, ◌≤◌, ◌⊎◌, Bool, true, List, [], length, get_or, set, map, replicate, Option, Some, None, refl, sym, ap, subst, ◌∙◌, inl, inr, arith, length-set, get_or-set_other}
+use Rattle.std.proofs.Common.{◌≡◌, ◌≢◌, ℕ, ◌+◌, ◌-◌, ◌/◌, ◌%◌, ◌<◌, ◌≤◌, ◌⊎◌, Bool, true, List}
+use Rattle.std.proofs.Common.{[], length, get_or, set, map, replicate, Option, Some, None, refl}
+use Rattle.std.proofs.Common.{sym, ap, subst, ◌∙◌, inl, inr, arith, length-set, get_or-set_other}
 use Rattle.std.specs.Option.{IfSome}
 use Rattle.std.proofs.Math.Nat.{mod-lt}
 use Rattle.std.proofs.lemmas.List.{ext_get_or, length-map, length-replicate}
@@ -13,9 +15,11 @@ use Rattle.rv_cache.specs.Replacement.{accessed, victim}
 use Rattle.rv_cache.specs.Cache.{Contents, accessed_sets}
 use Rattle.rv_cache.specs.WriteBack.{IsInside, AreInside, victim_written, sets_written}
 use Rattle.rv_cache.specs.Consistent.{IsDivided, AreFilled, IsInStep, IsConsistent}
-use Rattle.rv_cache.proofs.Replacement.{Each-accessed, Each-victim, length-accessed, dropped_line, is_dirty_written, not_accessed}
+use Rattle.rv_cache.proofs.Replacement.{Each-accessed, Each-victim, length-accessed}
+use Rattle.rv_cache.proofs.Replacement.{dropped_line, is_dirty_written, not_accessed}
 use Rattle.rv_cache.proofs.Sets.{Each-at, Each-set, Each-map, Each-replicate}
-use Rattle.rv_cache.proofs.Written.{IsToCome, line_wins, victim_either, length-victim_written, length-sets_written, sets_win, length-overwritten, get_or-overwritten_below, get_or-overwritten_above}
+use Rattle.rv_cache.proofs.Written.{IsToCome, line_wins, victim_either, length-victim_written, length-sets_written}
+use Rattle.rv_cache.proofs.Written.{sets_win, length-overwritten, get_or-overwritten_below, get_or-overwritten_above}
 use Rattle.rv_cache.proofs.Divided.{line_inside, same_line}
 
 module _ (base line_bytes : ℕ) (bytes : List ℕ) (positive : 0 < line_bytes) where

@@ -1,15 +1,19 @@
 -- The bytes of memory once lines were written to it.
-use Rattle.std.proofs.Common.{◌≡◌, ℕ, ◌+◌, ◌-◌, ◌*◌, ◌/◌, ◌<◌, ◌≤◌, ◌⊎◌, true, false, List, [], ◌∷◌, ◌++◌, length, get_or, take, drop, Option, Some, None, suc, zero, refl, ap, ◌∙◌, inl, inr, arith, length-take-le, length-append, length-drop, get_or-drop, get_or-take}
+use Rattle.std.proofs.Common.{◌≡◌, ℕ, ◌+◌, ◌-◌, ◌*◌, ◌/◌, ◌<◌, ◌≤◌, ◌⊎◌, true, false, List, [], ◌∷◌, ◌++◌}
+use Rattle.std.proofs.Common.{length, get_or, take, drop, Option, Some, None, suc, zero, refl, ap, ◌∙◌, inl}
+use Rattle.std.proofs.Common.{inr, arith, length-take-le, length-append, length-drop, get_or-drop, get_or-take}
 use Rattle.std.specs.List.{slice_range}
 use Rattle.std.specs.Option.{IfSome}
 use Rattle.std.proofs.lemmas.List.{get_or_append_left, get_or-append_right}
 use Rattle.std.proofs.lemmas.List.Edits.{length-between, get_or-between}
-use Rattle.std.proofs.lemmas.Bool.{cases_lt, cases_Bool, or_cases, and_parts, cond-true, cond-false, eqb-true, false≢true}
+use Rattle.std.proofs.lemmas.Bool.{cases_lt, cases_Bool, or_cases, and_parts}
+use Rattle.std.proofs.lemmas.Bool.{cond-true, cond-false, eqb-true, false≢true}
 use Rattle.std.proofs.lemmas.Nat.{div-add-mod', div-mul-add}
 use Rattle.rv_memory.specs.Bytes.{overwritten}
 use Rattle.rv_cache.specs.declared.line.CacheLine.{CacheLine}
 use Rattle.rv_cache.specs.Line.{is_dirty}
-use Rattle.rv_cache.specs.WriteBack.{IsInside, AreInside, Each, offset_of, line_written, victim_written, lines_written, sets_written}
+use Rattle.rv_cache.specs.WriteBack.{IsInside, AreInside, Each, offset_of, line_written}
+use Rattle.rv_cache.specs.WriteBack.{victim_written, lines_written, sets_written}
 
 module _ (xs ys : List ℕ) (at : ℕ) (fits : at + length ys ≤ length xs) where
   -- bytes written within a list leave its length

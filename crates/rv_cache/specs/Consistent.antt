@@ -1,5 +1,6 @@
 -- What holds of the fields of a cache: where the line of a byte is not dirty, memory has the byte that a program sees.
-use Rattle.std.specs.Prelude.{◌≡◌, ℕ, ◌+◌, ◌/◌, ◌%◌, ◌^◌, ◌≤◌, ◌<◌, false, List, [], length, slice_index, slice_index_or}
+use Rattle.std.specs.Prelude.{◌≡◌, ℕ, ◌+◌, ◌/◌, ◌%◌, ◌^◌, ◌≤◌, ◌<◌, false}
+use Rattle.std.specs.Prelude.{List, [], length, slice_index, slice_index_or}
 use Rattle.rv_isa.specs.declared.values.CacheValues.{CacheValues}
 use Rattle.rv_isa.specs.Description.{IsLegalCache}
 use Rattle.rv_cache.specs.declared.line.CacheLine.{CacheLine}

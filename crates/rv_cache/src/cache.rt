@@ -1,8 +1,11 @@
-ghost use Rattle.std.specs.Prelude.{◌≡◌, ◌+◌, ◌-◌, ◌%◌, ◌^◌, ◌≤◌, ◌++◌, ◌↔◌, IsTrue, true, false, [], get_or, length, map, replicate, slice_index, IfOk};
+ghost use Rattle.std.specs.Prelude.{◌≡◌, ◌+◌, ◌-◌, ◌%◌, ◌^◌, ◌≤◌, ◌++◌, ◌↔◌, IsTrue, true, false};
+ghost use Rattle.std.specs.Prelude.{[], get_or, length, map, replicate, slice_index, IfOk};
 ghost use Rattle.rv_isa.specs.Description.{IsLegalCost, IsRamBase};
 ghost use Rattle.rv_memory.specs.Bytes.{overwritten};
 ghost use Rattle.rv_cache.specs.Line.{cleaned, dirty_total};
-ghost use Rattle.rv_cache.specs.Cache.{IsAccess, IsAligned, IsCached, IsInMemory, IsUpdated, IsUpdatedElsewhere, access_cost, accessed_sets, cost_of_access, memory_after, memory_written_back, seen, seen_after};
+ghost use Rattle.rv_cache.specs.Cache.{IsAccess, IsAligned, IsCached, IsInMemory, IsUpdated};
+ghost use Rattle.rv_cache.specs.Cache.{IsUpdatedElsewhere, access_cost, accessed_sets, cost_of_access};
+ghost use Rattle.rv_cache.specs.Cache.{memory_after, memory_written_back, seen, seen_after};
 
 use crate::CacheLine;
 use crate::set::{Access, Set};

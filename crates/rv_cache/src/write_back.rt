@@ -1,6 +1,7 @@
 ghost use Rattle.std.specs.Prelude.{◌≡◌, ◌*◌, ◌≤◌, if◌then◌else◌, length, map, IfSome};
 ghost use Rattle.rv_cache.specs.Line.{cleaned, dirty_count, dirty_total};
-ghost use Rattle.rv_cache.specs.WriteBack.{IsInside, AreInside, Each, line_written, lines_written, sets_written, victim_written};
+ghost use Rattle.rv_cache.specs.WriteBack.{IsInside, AreInside, Each, line_written};
+ghost use Rattle.rv_cache.specs.WriteBack.{lines_written, sets_written, victim_written};
 
 use crate::CacheLine;
 use crate::set::Set;

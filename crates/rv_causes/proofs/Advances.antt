@@ -9,8 +9,10 @@ use Rattle.rv_passage.specs.Result.{issued_in}
 use Rattle.rv_passage.specs.declared.passage.Passage.{Passage}
 use Rattle.rv_causes.specs.Event.{Wait, again_by, waits, with_events}
 use Rattle.rv_causes.specs.Lookup.{Journey, first_of, journey_of, one_before}
-use Rattle.rv_causes.specs.Moving.{Move, advance_of, advanced, after_previous, dispatch_wait, fills_dispatch, issue_of, moved_at, moved_by, moved_up_to}
-use Rattle.rv_causes.specs.Moving.{new_advanced, new_at, new_at_one, new_up_to, room_by_drain, room_by_issue, room_by_leaving, room_for}
+use Rattle.rv_causes.specs.Moving.{Move, advance_of, advanced, after_previous, dispatch_wait}
+use Rattle.rv_causes.specs.Moving.{fills_dispatch, issue_of, moved_at, moved_by, moved_up_to}
+use Rattle.rv_causes.specs.Moving.{new_advanced, new_at, new_at_one, new_up_to}
+use Rattle.rv_causes.specs.Moving.{room_by_drain, room_by_issue, room_by_leaving, room_for}
 use Rattle.rv_causes.specs.Setting.{Setting, made_of}
 use Rattle.rv_causes.specs.Sought.{is_at, is_just_before, is_sought}
 use Rattle.rv_causes.specs.Way.{with_stage}
@@ -20,7 +22,8 @@ use Rattle.rv_causes.specs.declared.{point.Point.Point, point.Stage.Stage, way.W
 use Rattle.rv_causes.specs.declared.cause.Cause.TheVariants as cause
 use Rattle.rv_causes.specs.declared.point.Stage.TheVariants as stage
 use Rattle.rv_causes.specs.declared.sought.Sought.TheVariants as sought
-use Rattle.rv_causes.proofs.EventLists.{J, OJ, first_have, get_have, if_with, journey_have, one_before_have, or_with, set_have, unwrap_with}
+use Rattle.rv_causes.proofs.EventLists.{J, OJ, first_have, get_have, if_with, journey_have}
+use Rattle.rv_causes.proofs.EventLists.{one_before_have, or_with, set_have, unwrap_with}
 use Rattle.rv_causes.proofs.EventLists.{before_implies, holds_imply, ways_imply}
 use Rattle.rv_causes.proofs.Leavings.{AreLeavingOf, leaving_implies}
 use Rattle.rv_causes.proofs.News.{IsKept, IsNew, new_implies, wait_has, wait_still, with_both}

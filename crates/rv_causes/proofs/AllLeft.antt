@@ -1,5 +1,6 @@
 -- Where the instructions that left are older than the others, all that left are among the first so many.
-use Rattle.std.proofs.Common.{◌≡◌, ◌∙◌, ℕ, suc, ◌+◌, true, false, List, [], ◌∷◌, Option, None, Some, refl, ap, sym, subst, arith, inl, inr, take}
+use Rattle.std.proofs.Common.{◌≡◌, ◌∙◌, ℕ, suc, ◌+◌, true, false, List, [], ◌∷◌, Option}
+use Rattle.std.proofs.Common.{None, Some, refl, ap, sym, subst, arith, inl, inr, take}
 use Rattle.std.specs.Prelude.{Bool, if◌then◌else◌, cond, count_by}
 use Rattle.std.specs.List.{list_all}
 use Rattle.std.proofs.lemmas.Bool.{cases_Bool}

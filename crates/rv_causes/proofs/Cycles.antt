@@ -1,5 +1,6 @@
 -- What holds of all that is known when a cycle begins, and is kept with each new event, holds of all that is known after it.
-use Rattle.std.proofs.Common.{◌≡◌, ◌∙◌, ℕ, ◌+◌, ◌-◌, List, [], ◌∷◌, ◌++◌, length, filter, Option, Some, None, ap, refl, subst, sym}
+use Rattle.std.proofs.Common.{◌≡◌, ◌∙◌, ℕ, ◌+◌, ◌-◌, List, [], ◌∷◌, ◌++◌, length}
+use Rattle.std.proofs.Common.{filter, Option, Some, None, ap, refl, subst, sym}
 use Rattle.std.specs.Prelude.{Bool, true, false, IfSome, slice_get, ◌==◌, ◌&&◌, nat_le, nat_lt, count_by, if◌then◌else◌}
 use Rattle.std.specs.Option.{option_or}
 use Rattle.rv_hardware.specs.Broadcast.{mends_early}
@@ -11,11 +12,15 @@ use Rattle.rv_passage.specs.declared.passage.Passage.{Passage}
 use Rattle.rv_rob.specs.ReorderBuffer.{youngest}
 use Rattle.rv_rob.specs.declared.entry.Entry.{Entry}
 use Rattle.rv_causes.specs.Event.{Wait, waits, with_events}
-use Rattle.rv_causes.specs.Fetching.{after_flush, after_mend, after_redirection, after_room, after_word, anew_by, fetch_event, fetch_wait}
-use Rattle.rv_causes.specs.Fetching.{fetched_by, fills_fetch, goes_on, is_jump, is_mended, mend_of, new_fetched, room_of}
+use Rattle.rv_causes.specs.Fetching.{after_flush, after_mend, after_redirection, after_room}
+use Rattle.rv_causes.specs.Fetching.{after_word, anew_by, fetch_event, fetch_wait}
+use Rattle.rv_causes.specs.Fetching.{fetched_by, fills_fetch, goes_on, is_jump}
+use Rattle.rv_causes.specs.Fetching.{is_mended, mend_of, new_fetched, room_of}
 use Rattle.rv_causes.specs.Holding.{drain_begun, drain_event, goes_beyond, hold_of, hold_of_kind, is_begun, is_taken}
-use Rattle.rv_causes.specs.Holding.{drain_kept, lines_hold, load_hold, new_holds, port_event, port_kept, port_taken, taken_event}
-use Rattle.rv_causes.specs.Leaving.{interrupt_event, is_interrupted, leaving_of, left_by, left_events, lines_event, newly_left}
+use Rattle.rv_causes.specs.Holding.{drain_kept, lines_hold, load_hold, new_holds}
+use Rattle.rv_causes.specs.Holding.{port_event, port_kept, port_taken, taken_event}
+use Rattle.rv_causes.specs.Leaving.{interrupt_event, is_interrupted, leaving_of}
+use Rattle.rv_causes.specs.Leaving.{left_by, left_events, lines_event, newly_left}
 use Rattle.rv_causes.specs.Lookup.{Journey, first_of, last_of, one_before}
 use Rattle.rv_causes.specs.Moving.{all_moved, all_new}
 use Rattle.rv_causes.specs.Path.{interrupt_taken, known_by, known_in, ways_by}
@@ -24,18 +29,23 @@ use Rattle.rv_causes.specs.Setting.{Setting, last_left}
 use Rattle.rv_causes.specs.Sought.{is_at, is_sought}
 use Rattle.rv_causes.specs.Way.{way_from}
 use Rattle.rv_causes.specs.Within.{AreHoldsOf, AreKnown, AreWaysOf, IsBeforeOf, IsWayOf}
-use Rattle.rv_causes.specs.declared.{before.DrainHold.DrainHold, before.Facts.Facts, before.Holder.Holder, before.Left.Left, before.PortHold.PortHold}
+use Rattle.rv_causes.specs.declared.{before.DrainHold.DrainHold, before.Facts.Facts}
+use Rattle.rv_causes.specs.declared.{before.Holder.Holder, before.Left.Left, before.PortHold.PortHold}
 use Rattle.rv_causes.specs.declared.{event.Event.Event, leaving.Leaving.Leaving, point.Reason.Reason, way.Way.Way}
 use Rattle.rv_causes.specs.declared.before.Holder.TheVariants as holder
 use Rattle.rv_causes.specs.declared.cause.Cause.TheVariants as cause
 use Rattle.rv_causes.specs.declared.point.Stage.TheVariants as stage
 use Rattle.rv_causes.specs.declared.sought.Sought.TheVariants as sought
 use Rattle.rv_causes.proofs.Advances.{IsKnownBy, WaitsFor, known_by_implies, moved_up_to_K}
-use Rattle.rv_causes.proofs.EventLists.{J, OJ, append_have, first_have, get_have, holds_append, holds_filter, if_with, in_flight_have, last_have}
-use Rattle.rv_causes.proofs.EventLists.{before_implies, holds_imply, one_before_have, or_with, replicate_have, unwrap_with, ways_imply}
-use Rattle.rv_causes.proofs.Leavings.{AreLeavingOf, drain_new, interrupt_new, leaving_implies, leaving_new, left_events_are, left_events_have}
+use Rattle.rv_causes.proofs.EventLists.{J, OJ, append_have, first_have, get_have, holds_append}
+use Rattle.rv_causes.proofs.EventLists.{holds_filter, if_with, in_flight_have, last_have}
+use Rattle.rv_causes.proofs.EventLists.{before_implies, holds_imply, one_before_have}
+use Rattle.rv_causes.proofs.EventLists.{or_with, replicate_have, unwrap_with, ways_imply}
+use Rattle.rv_causes.proofs.Leavings.{AreLeavingOf, drain_new, interrupt_new, leaving_implies}
+use Rattle.rv_causes.proofs.Leavings.{leaving_new, left_events_are, left_events_have}
 use Rattle.rv_causes.proofs.Leavings.{lines_new}
-use Rattle.rv_causes.proofs.News.{AllOf, IsKept, IsNew, all_back, all_both, all_front, all_imply, all_new_have, known_still, new_implies}
+use Rattle.rv_causes.proofs.News.{AllOf, IsKept, IsNew, all_back, all_both, all_front}
+use Rattle.rv_causes.proofs.News.{all_imply, all_new_have, known_still, new_implies}
 use Rattle.rv_causes.proofs.News.{wait_has, wait_still, with_both}
 use Rattle.rv_causes.proofs.Waits.{broadcast_have, dispatched_have, issued_have, since_left_V}
 

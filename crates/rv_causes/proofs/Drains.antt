@@ -2,10 +2,12 @@
 use Rattle.std.proofs.Common.{◌≡◌, ℕ, true, false, Option, None, Some, refl}
 use Rattle.std.specs.Prelude.{◌&&◌, Bool, if◌then◌else◌, List}
 use Rattle.std.specs.Option.{option_or}
-use Rattle.rv_causes.specs.Holding.{drain_begun, drain_event, drain_of, is_begun, is_taken, lines_hold, load_hold, port_taken}
+use Rattle.rv_causes.specs.Holding.{drain_begun, drain_event, drain_of, is_begun}
+use Rattle.rv_causes.specs.Holding.{is_taken, lines_hold, load_hold, port_taken}
 use Rattle.rv_causes.specs.Lookup.{Journey, first_of}
 use Rattle.rv_causes.specs.Setting.{Setting}
-use Rattle.rv_causes.specs.declared.{before.Facts.Facts, before.PortHold.PortHold, event.Event.Event, leaving.Leaving.Leaving, way.Way.Way}
+use Rattle.rv_causes.specs.declared.{before.Facts.Facts, before.PortHold.PortHold}
+use Rattle.rv_causes.specs.declared.{event.Event.Event, leaving.Leaving.Leaving, way.Way.Way}
 use Rattle.rv_causes.specs.declared.before.Holder.TheVariants as holder
 use Rattle.rv_causes.specs.declared.sought.Sought.TheVariants as sought
 

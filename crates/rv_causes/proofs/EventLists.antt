@@ -9,7 +9,8 @@ use Rattle.rv_causes.specs.Path.{Known, still_in_flight, way_if}
 use Rattle.rv_causes.specs.Setting.{last_left}
 use Rattle.rv_causes.specs.Sought.{is_sought}
 use Rattle.rv_causes.specs.Within.{AreHoldsOf, AreKnown, AreWaysOf, IsBeforeOf, IsWayOf}
-use Rattle.rv_causes.specs.declared.{before.Before.Before, before.DrainHold.DrainHold, before.PortHold.PortHold, before.UnitHold.UnitHold}
+use Rattle.rv_causes.specs.declared.{before.Before.Before, before.DrainHold.DrainHold}
+use Rattle.rv_causes.specs.declared.{before.PortHold.PortHold, before.UnitHold.UnitHold}
 use Rattle.rv_causes.specs.declared.{event.Event.Event, sought.Sought.Sought, way.Way.Way}
 
 -- of the events of an instruction that is found, if one is

@@ -4,7 +4,8 @@ use Rattle.rv_hardware.specs.Hardware.{Hardware}
 use Rattle.rv_passage.specs.Table.{table_at}
 use Rattle.rv_passage.specs.declared.passage.Passage.{Passage}
 use Rattle.rv_causes.specs.Event.{nothing_yet, with_events}
-use Rattle.rv_causes.specs.Keeping.{ArePathsKept, IsFollowed, IsKnown, known_of_path, known_shown, made_shown, setting_shown}
+use Rattle.rv_causes.specs.Keeping.{ArePathsKept, IsFollowed, IsKnown, known_of_path}
+use Rattle.rv_causes.specs.Keeping.{known_shown, made_shown, setting_shown}
 use Rattle.rv_causes.specs.Path.{Known, known_at, known_in}
 use Rattle.rv_causes.specs.Reading.{CycleRead}
 use Rattle.rv_causes.specs.Way.{way_from}

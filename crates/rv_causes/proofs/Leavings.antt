@@ -6,7 +6,8 @@ use Rattle.std.specs.Option.{option_or, option_to_list}
 use Rattle.rv_passage.specs.declared.passage.Passage.{Passage}
 use Rattle.rv_causes.specs.Event.{Wait, again_by, waits}
 use Rattle.rv_causes.specs.Holding.{at_its_commit, drain_event}
-use Rattle.rv_causes.specs.Leaving.{first_to_leave, interrupt_event, is_retired_store, known_in, leaves_after, leaving_event, leaving_of}
+use Rattle.rv_causes.specs.Leaving.{first_to_leave, interrupt_event, is_retired_store}
+use Rattle.rv_causes.specs.Leaving.{known_in, leaves_after, leaving_event, leaving_of}
 use Rattle.rv_causes.specs.Leaving.{left_events, lines_after, lines_event, none_left, with_event, with_row, with_rows}
 use Rattle.rv_causes.specs.Setting.{Setting, after_port, after_stores, last_left, made, made_of}
 use Rattle.rv_causes.specs.Sought.{is_end, is_just_before}
@@ -19,7 +20,8 @@ use Rattle.rv_causes.specs.declared.cause.Cause.TheVariants as cause
 use Rattle.rv_causes.specs.declared.point.Stage.TheVariants as stage
 use Rattle.rv_causes.proofs.EventLists.{if_with, or_with, unwrap_with}
 use Rattle.rv_causes.proofs.News.{AllOf, IsNew, all_back, all_both, all_front, all_imply, all_some, made_new, some_all}
-use Rattle.rv_causes.proofs.Waits.{after_port_V, after_stores_V, broadcast_have, dispatched_have, first_to_leave_V, since_left_V}
+use Rattle.rv_causes.proofs.Waits.{after_port_V, after_stores_V, broadcast_have}
+use Rattle.rv_causes.proofs.Waits.{dispatched_have, first_to_leave_V, since_left_V}
 
 -- something holds of the events of those that leave
 pub record AreLeavingOf (Q : Event → Type 0) (leaving : Leaving) : Type 0 where

@@ -1,11 +1,13 @@
 -- The paths to all for which an event may wait come to a root: all of their points do.
 use Rattle.std.proofs.Common.{List, [], ◌∷◌, ◌++◌, Option, Some, None}
 use Rattle.std.specs.Prelude.{IfSome}
-use Rattle.rv_causes.specs.Live.{before_points, drain_points, holds_points, live_points, point_of, port_points, way_points, ways_points}
+use Rattle.rv_causes.specs.Live.{before_points, drain_points, holds_points, live_points}
+use Rattle.rv_causes.specs.Live.{point_of, port_points, way_points, ways_points}
 use Rattle.rv_causes.specs.Path.{Known}
 use Rattle.rv_causes.specs.Walk.{AllComeTo}
 use Rattle.rv_causes.specs.Within.{AreHoldsOf, AreKnown, AreWaysOf, IsBeforeOf, IsWayOf}
-use Rattle.rv_causes.specs.declared.{before.Before.Before, before.DrainHold.DrainHold, before.PortHold.PortHold, before.UnitHold.UnitHold}
+use Rattle.rv_causes.specs.declared.{before.Before.Before, before.DrainHold.DrainHold}
+use Rattle.rv_causes.specs.declared.{before.PortHold.PortHold, before.UnitHold.UnitHold}
 use Rattle.rv_causes.specs.declared.{event.Event.Event, point.Point.Point, way.Way.Way}
 use Rattle.rv_causes.proofs.Passing.{Leads}
 

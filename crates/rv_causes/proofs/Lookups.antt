@@ -1,5 +1,6 @@
 -- The first instruction that is looked for, from a place on.
-use Rattle.std.proofs.Common.{◌≡◌, ◌∙◌, ◌<◌, ℕ, zero, suc, List, [], ◌∷◌, None, Some, arith, drop, drop-cons, false, length, refl, ap, sym}
+use Rattle.std.proofs.Common.{◌≡◌, ◌∙◌, ◌<◌, ℕ, zero, suc, List, [], ◌∷◌, None, Some}
+use Rattle.std.proofs.Common.{arith, drop, drop-cons, false, length, refl, ap, sym}
 use Rattle.std.proofs.lemmas.Bool.Decides.{nat_tests}
 use Rattle.std.proofs.lemmas.List.Sums.{count_by-le-length}
 use Rattle.std.specs.Prelude.{◌==◌, count_by, if◌then◌else◌, slice_get}

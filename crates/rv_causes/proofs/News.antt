@@ -4,7 +4,8 @@ use Rattle.std.specs.Prelude.{Bool, true, false, if◌then◌else◌, IfSome}
 use Rattle.std.specs.Option.{option_to_list, unwrap_or}
 use Rattle.rv_causes.specs.Causes.{IsSo}
 use Rattle.rv_causes.specs.Claims.{cause_if, claim_of, is_so}
-use Rattle.rv_causes.specs.Event.{Wait, ends_with, event_after, event_by, event_from, named_after, new_by, new_from, refill_of, with_events}
+use Rattle.rv_causes.specs.Event.{Wait, ends_with, event_after, event_by, event_from}
+use Rattle.rv_causes.specs.Event.{named_after, new_by, new_from, refill_of, with_events}
 use Rattle.rv_causes.specs.declared.{cause.Cause.Cause, event.Event.Event, point.Point.Point, point.Reason.Reason}
 
 -- a new event comes after so many cycles, and waited for one of which something holds, as its cause says

@@ -1,6 +1,7 @@
 -- The paths to all for which an event may wait come to one root, with each new event; and a window stands for all
 -- events with the new ones.
-use Rattle.std.proofs.Common.{◌≡◌, ◌∙◌, ℕ, List, [], ◌∷◌, ◌++◌, true, false, Option, Some, refl, ap, sym, subst, append_assoc}
+use Rattle.std.proofs.Common.{◌≡◌, ◌∙◌, ℕ, List, [], ◌∷◌, ◌++◌, true, false}
+use Rattle.std.proofs.Common.{Option, Some, refl, ap, sym, subst, append_assoc}
 use Rattle.std.specs.Prelude.{Bool, if◌then◌else◌, reverse, ◌&&◌}
 use Rattle.std.proofs.lemmas.Bool.{eq-eqb}
 use Rattle.std.proofs.lemmas.List.{reverse-append}

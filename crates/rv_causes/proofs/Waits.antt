@@ -8,17 +8,22 @@ use Rattle.rv_isa.specs.declared.operations.Kind.{Kind}
 use Rattle.rv_passage.specs.Result.{ready_in}
 use Rattle.rv_passage.specs.declared.{passage.Passage.Passage, producers.Producer.Producer}
 use Rattle.rv_causes.specs.Event.{Wait, nothing_yet, waits}
-use Rattle.rv_causes.specs.Issuing.{after_broadcast, after_bus, after_hold_of, after_issue, after_older_store, after_operands, after_producer}
-use Rattle.rv_causes.specs.Issuing.{after_stores_known, after_units, after_units_of, broadcast_wait, execution_cause, has_ended, hold_among}
+use Rattle.rv_causes.specs.Issuing.{after_broadcast, after_bus, after_hold_of, after_issue}
+use Rattle.rv_causes.specs.Issuing.{after_older_store, after_operands, after_producer}
+use Rattle.rv_causes.specs.Issuing.{after_stores_known, after_units, after_units_of}
+use Rattle.rv_causes.specs.Issuing.{broadcast_wait, execution_cause, has_ended, hold_among}
 use Rattle.rv_causes.specs.Issuing.{issue_after, issue_wait, older_hold}
 use Rattle.rv_causes.specs.Leaving.{after_left, after_left_before, after_own_lines, first_to_leave, own_lines}
 use Rattle.rv_causes.specs.Lookup.{Journey, first_of, last_of}
-use Rattle.rv_causes.specs.Setting.{Setting, after_drain_at, after_drain_before, after_hold, after_leaving, after_port, after_stores}
-use Rattle.rv_causes.specs.Setting.{hold_ended, is_hold_of, last_left, left_before, left_just_before, port_ended, since_left}
+use Rattle.rv_causes.specs.Setting.{Setting, after_drain_at, after_drain_before}
+use Rattle.rv_causes.specs.Setting.{after_hold, after_leaving, after_port, after_stores}
+use Rattle.rv_causes.specs.Setting.{hold_ended, is_hold_of, last_left, left_before}
+use Rattle.rv_causes.specs.Setting.{left_just_before, port_ended, since_left}
 use Rattle.rv_causes.specs.Sought.{is_at, is_just_before, is_sought}
 use Rattle.rv_causes.specs.Way.{broadcast_by, dispatched_by, issued_by}
 use Rattle.rv_causes.specs.Within.{AreHoldsOf, AreWaysOf, IsBeforeOf, IsWayOf}
-use Rattle.rv_causes.specs.declared.{before.DrainHold.DrainHold, before.Left.Left, before.PortHold.PortHold, before.UnitHold.UnitHold}
+use Rattle.rv_causes.specs.declared.{before.DrainHold.DrainHold, before.Left.Left}
+use Rattle.rv_causes.specs.declared.{before.PortHold.PortHold, before.UnitHold.UnitHold}
 use Rattle.rv_causes.specs.declared.{cause.Cause.Cause, event.Event.Event, sought.Sought.Sought, way.Way.Way}
 use Rattle.rv_causes.specs.declared.before.Holder.TheVariants as holder
 use Rattle.rv_causes.specs.declared.cause.Cause.TheVariants as cause

@@ -1,11 +1,13 @@
 -- A window on all events of a run: one event more, another root, and the account of a path.
-use Rattle.std.proofs.Common.{◌≡◌, ◌⊎◌, ◌∙◌, ℕ, List, [], ◌∷◌, ◌++◌, Bool, true, false, Option, Some, None, ◌≤◌, length, arith, drop, take}
+use Rattle.std.proofs.Common.{◌≡◌, ◌⊎◌, ◌∙◌, ℕ, List, [], ◌∷◌, ◌++◌, Bool, true, false}
+use Rattle.std.proofs.Common.{Option, Some, None, ◌≤◌, length, arith, drop, take}
 use Rattle.std.proofs.Common.{refl, sym, ap, subst, append_assoc, inl, inr}
 use Rattle.std.specs.Prelude.{if◌then◌else◌, reverse, slice_get}
 use Rattle.rv_causes.specs.Account.{Accounted, account_of, with_path}
 use Rattle.rv_causes.specs.Meeting.{HasPoint, IsAmong}
 use Rattle.rv_causes.specs.Walk.{AllComeTo, ComesTo, beyond, is_wanted, path_to}
-use Rattle.rv_causes.specs.Window.{AllPass, AreAlike, IsMoved, IsWindow, Passes, account_at, account_to, accounted, kept_events}
+use Rattle.rv_causes.specs.Window.{AllPass, AreAlike, IsMoved, IsWindow, Passes}
+use Rattle.rv_causes.specs.Window.{account_at, account_to, accounted, kept_events}
 use Rattle.rv_causes.specs.declared.{point.Point.Point, event.Event.Event, window.Window.Window}
 use Rattle.rv_causes.proofs.Backwards.{reverse-push, reverse-split}
 use Rattle.rv_causes.proofs.Accounts.{account-append}

@@ -1,5 +1,6 @@
 -- The place of an address among words in order, and the change there.
-use Rattle.std.proofs.Common.{◌≡◌, ◌∙◌, ℕ, zero, suc, ◌<◌, ◌≤◌, nat_lt, List, [], ◌∷◌, length, get_or, set, refl, ap, sym, arith, eq-eqb}
+use Rattle.std.proofs.Common.{◌≡◌, ◌∙◌, ℕ, zero, suc, ◌<◌, ◌≤◌, nat_lt, List, []}
+use Rattle.std.proofs.Common.{◌∷◌, length, get_or, set, refl, ap, sym, arith, eq-eqb}
 use Rattle.std.proofs.Common.{ne_eqb, inl, inr}
 use Rattle.std.specs.Prelude.{insert}
 use Rattle.std.proofs.lemmas.List.{set-get_or}

@@ -1,11 +1,13 @@
 -- How many cycles of a path each cause has, and each word of the program.
-use Rattle.std.specs.Prelude.{◌≡◌, ℕ, ◌+◌, ◌-◌, ◌^◌, ◌<◌, ◌≤◌, ◌==◌, nat_lt, if◌then◌else◌, List, [], ◌∷◌, length, replicate, slice_set}
+use Rattle.std.specs.Prelude.{◌≡◌, ℕ, ◌+◌, ◌-◌, ◌^◌, ◌<◌, ◌≤◌, ◌==◌, nat_lt}
+use Rattle.std.specs.Prelude.{if◌then◌else◌, List, [], ◌∷◌, length, replicate, slice_set}
 use Rattle.std.specs.Prelude.{sum, Option, Some, None}
 use Rattle.std.proofs.Props.{props}
 use Rattle.std.specs.Coded.{×_prop, Unit-prop}
 use Rattle.std.specs.List.{find, slice_index_or, sum_by}
 use Rattle.rv_causes.specs.Cause.{place_of}
-use Rattle.rv_causes.specs.declared.{cause.Cause.Cause, point.Reason.Reason, event.Event.Event, word_cycles.WordCycles.WordCycles}
+use Rattle.rv_causes.specs.declared.{cause.Cause.Cause, point.Reason.Reason}
+use Rattle.rv_causes.specs.declared.{event.Event.Event, word_cycles.WordCycles.WordCycles}
 
 -- so many cycles, how many of them each cause has, and each word of the program, in the order of their addresses
 pub record Accounted : Type 0 where

@@ -4,7 +4,8 @@
 use Rattle.std.specs.Prelude.{ℕ, ◌+◌, ◌==◌, ◌&&◌, ◌||◌, not, nat_lt, Bool, true, if◌then◌else◌, List, [], ◌∷◌}
 use Rattle.std.specs.List.{list_any}
 use Rattle.rv_causes.specs.Point.{stage_place}
-use Rattle.rv_causes.specs.declared.{cause.Cause.Cause, claim.Claim.Claim, claim.Stages.Stages, claim.When.When, claim.Whose.Whose}
+use Rattle.rv_causes.specs.declared.{cause.Cause.Cause, claim.Claim.Claim}
+use Rattle.rv_causes.specs.declared.{claim.Stages.Stages, claim.When.When, claim.Whose.Whose}
 use Rattle.rv_causes.specs.declared.{point.Point.Point, point.Stage.Stage}
 use Rattle.rv_causes.specs.declared.cause.Cause.TheVariants as cause
 use Rattle.rv_causes.specs.declared.claim.Stages.TheVariants as stages

@@ -1,8 +1,10 @@
 -- An event of a run, by the event that it waited for last, and why.
-use Rattle.std.specs.Prelude.{ℕ, ◌&&◌, ◌||◌, not, Bool, true, false, if◌then◌else◌, List, [], ◌∷◌, Option, None, Some, is_some}
+use Rattle.std.specs.Prelude.{ℕ, ◌&&◌, ◌||◌, not, Bool, true, false, if◌then◌else◌}
+use Rattle.std.specs.Prelude.{List, [], ◌∷◌, Option, None, Some, is_some}
 use Rattle.std.specs.Option.{option_or, unwrap_or}
 use Rattle.rv_causes.specs.Claims.{cause_if, claim_of, is_so}
-use Rattle.rv_causes.specs.declared.{cause.Cause.Cause, event.Event.Event, point.Point.Point, point.Reason.Reason, point.Stage.Stage}
+use Rattle.rv_causes.specs.declared.{cause.Cause.Cause, event.Event.Event, point.Point.Point}
+use Rattle.rv_causes.specs.declared.{point.Reason.Reason, point.Stage.Stage}
 use Rattle.rv_causes.specs.declared.cause.Cause.TheVariants as cause
 use Rattle.rv_causes.specs.declared.point.Stage.TheVariants as stage
 

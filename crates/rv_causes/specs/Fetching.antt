@@ -1,5 +1,6 @@
 -- The event by which the words of a cycle are fetched.
-use Rattle.std.specs.Prelude.{ℕ, ◌+◌, ◌-◌, ◌%◌, ◌^◌, ◌==◌, ◌&&◌, nat_le, Bool, false, if◌then◌else◌, List, [], length, Option, Some}
+use Rattle.std.specs.Prelude.{ℕ, ◌+◌, ◌-◌, ◌%◌, ◌^◌, ◌==◌, ◌&&◌, nat_le, Bool}
+use Rattle.std.specs.Prelude.{false, if◌then◌else◌, List, [], length, Option, Some}
 use Rattle.std.specs.Prelude.{None, slice_get}
 use Rattle.std.specs.Option.{option_or, unwrap_or}
 use Rattle.rv_hardware.specs.Broadcast.{mends_early}

@@ -1,5 +1,6 @@
 -- Who holds the port of the cache and the units after a cycle.
-use Rattle.std.specs.Prelude.{ℕ, ◌+◌, ◌==◌, ◌&&◌, not, nat_le, nat_lt, Bool, false, if◌then◌else◌, List, [], ◌∷◌, ◌++◌, filter, Option, Some, None}
+use Rattle.std.specs.Prelude.{ℕ, ◌+◌, ◌==◌, ◌&&◌, not, nat_le, nat_lt, Bool, false}
+use Rattle.std.specs.Prelude.{if◌then◌else◌, List, [], ◌∷◌, ◌++◌, filter, Option, Some, None}
 use Rattle.std.specs.Option.{option_or, unwrap_or}
 use Rattle.rv_isa.specs.Instruction.{kind_of_word}
 use Rattle.rv_isa.specs.PerKind.{at_kind}
@@ -12,7 +13,8 @@ use Rattle.rv_causes.specs.Lookup.{Journey, first_of}
 use Rattle.rv_causes.specs.Setting.{Setting, after_port, last_left, made}
 use Rattle.rv_causes.specs.Sought.{is_at}
 use Rattle.rv_causes.specs.WaitingStores.{oldest}
-use Rattle.rv_causes.specs.declared.{before.DrainHold.DrainHold, before.Facts.Facts, before.Holder.Holder, before.PortHold.PortHold}
+use Rattle.rv_causes.specs.declared.{before.DrainHold.DrainHold, before.Facts.Facts}
+use Rattle.rv_causes.specs.declared.{before.Holder.Holder, before.PortHold.PortHold}
 use Rattle.rv_causes.specs.declared.{before.UnitHold.UnitHold, event.Event.Event, leaving.Leaving.Leaving, way.Way.Way}
 use Rattle.rv_causes.specs.Way.{issued_by}
 use Rattle.rv_causes.specs.declared.before.Holder.TheVariants as holder

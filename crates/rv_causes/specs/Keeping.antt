@@ -1,5 +1,6 @@
 -- What is kept of the path while a run goes on.
-use Rattle.std.specs.Prelude.{◌≡◌, ℕ, ◌+◌, ◌≤◌, if◌then◌else◌, List, [], ◌∷◌, ◌++◌, drop, length, vec_capacity, Option, Some, None, is_some}
+use Rattle.std.specs.Prelude.{◌≡◌, ℕ, ◌+◌, ◌≤◌, if◌then◌else◌, List, [], ◌∷◌, ◌++◌}
+use Rattle.std.specs.Prelude.{drop, length, vec_capacity, Option, Some, None, is_some}
 use Rattle.std.specs.List.{list_all}
 use Rattle.std.specs.Option.{option_or}
 use Rattle.rv_passage.specs.Passage.{is_in_flight}
@@ -16,7 +17,8 @@ use Rattle.rv_causes.specs.Path.{Known, before_next, known_in, made_in, still_in
 use Rattle.rv_causes.specs.Reading.{CycleRead, HardwareRead}
 use Rattle.rv_causes.specs.Setting.{Setting, is_refilled, last_left}
 use Rattle.rv_causes.specs.WaitingStores.{still_waiting}
-use Rattle.rv_causes.specs.declared.{before.Before.Before, before.UnitHold.UnitHold, event.Event.Event, path.Path.Path, point.Point.Point}
+use Rattle.rv_causes.specs.declared.{before.Before.Before, before.UnitHold.UnitHold}
+use Rattle.rv_causes.specs.declared.{event.Event.Event, path.Path.Path, point.Point.Point}
 use Rattle.rv_causes.specs.declared.{seeing.Seen.Seen, way.Way.Way, window.Window.Window}
 
 -- the events of the instructions in flight

@@ -1,5 +1,6 @@
 -- The instructions that leave the hardware in a cycle, and the lines that the oldest one writes back.
-use Rattle.std.specs.Prelude.{◌≡◌, ℕ, ◌==◌, ◌&&◌, not, Bool, true, false, if◌then◌else◌, List, [], ◌∷◌, ◌++◌, count_by, Option, Some, None}
+use Rattle.std.specs.Prelude.{◌≡◌, ℕ, ◌==◌, ◌&&◌, not, Bool, true, false, if◌then◌else◌}
+use Rattle.std.specs.Prelude.{List, [], ◌∷◌, ◌++◌, count_by, Option, Some, None}
 use Rattle.std.specs.Option.{option_or, option_to_list, unwrap_or}
 use Rattle.std.specs.List.{list_any}
 use Rattle.rv_hardware.specs.Step.{is_interrupt}
@@ -11,10 +12,12 @@ use Rattle.rv_passage.specs.Prediction.{differ, next_of}
 use Rattle.rv_passage.specs.declared.passage.{Ending.Ending, Passage.Passage}
 use Rattle.rv_passage.specs.declared.passage.Ending.TheVariants.{InFlight, Retired, Trapped, Squashed}
 use Rattle.rv_causes.specs.Event.{Wait, again, waits}
-use Rattle.rv_causes.specs.Setting.{Setting, after_stores, is_hold_of, left_before, made, made_of, port_ended, since_left}
+use Rattle.rv_causes.specs.Setting.{Setting, after_stores, is_hold_of, left_before}
+use Rattle.rv_causes.specs.Setting.{made, made_of, port_ended, since_left}
 use Rattle.rv_causes.specs.Sought.{is_end, is_just_before, is_sought}
 use Rattle.rv_causes.specs.Way.{broadcast_by, dispatched_by}
-use Rattle.rv_causes.specs.declared.{before.Left.Left, before.PortHold.PortHold, cause.Cause.Cause, event.Event.Event, point.Reason.Reason}
+use Rattle.rv_causes.specs.declared.{before.Left.Left, before.PortHold.PortHold}
+use Rattle.rv_causes.specs.declared.{cause.Cause.Cause, event.Event.Event, point.Reason.Reason}
 use Rattle.rv_causes.specs.declared.{leaving.Leaving.Leaving, way.Way.Way}
 use Rattle.rv_causes.specs.declared.before.Holder.TheVariants as holder
 use Rattle.rv_causes.specs.declared.cause.Cause.TheVariants as cause

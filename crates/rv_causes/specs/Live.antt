@@ -1,7 +1,8 @@
 -- The events for which one of a later cycle may wait.
 use Rattle.std.specs.Prelude.{List, [], ◌∷◌, ◌++◌, Option, Some, None}
 use Rattle.rv_causes.specs.Setting.{last_left}
-use Rattle.rv_causes.specs.declared.{before.Before.Before, before.DrainHold.DrainHold, before.PortHold.PortHold, before.UnitHold.UnitHold}
+use Rattle.rv_causes.specs.declared.{before.Before.Before, before.DrainHold.DrainHold}
+use Rattle.rv_causes.specs.declared.{before.PortHold.PortHold, before.UnitHold.UnitHold}
 use Rattle.rv_causes.specs.declared.{event.Event.Event, point.Point.Point, way.Way.Way}
 
 -- that of an event, if there is one

@@ -1,5 +1,6 @@
 -- The events by which instructions are dispatched, and what a cycle makes of the events of those that were in flight before it.
-use Rattle.std.specs.Prelude.{ℕ, zero, suc, ◌+◌, ◌-◌, ◌==◌, ◌&&◌, ◌||◌, nat_le, Bool, false, if◌then◌else◌, List, [], ◌++◌, length, count_by, Option}
+use Rattle.std.specs.Prelude.{ℕ, zero, suc, ◌+◌, ◌-◌, ◌==◌, ◌&&◌, ◌||◌, nat_le, Bool, false}
+use Rattle.std.specs.Prelude.{if◌then◌else◌, List, [], ◌++◌, length, count_by, Option}
 use Rattle.std.specs.Prelude.{Some, None, slice_get, slice_set}
 use Rattle.std.specs.Option.{option_or, unwrap_or}
 use Rattle.rv_isa.specs.Instruction.{kind_of_word}

@@ -1,5 +1,6 @@
 -- The path that leads to each event of a run: what is known of it between two cycles, and what a cycle makes of that.
-use Rattle.std.specs.Prelude.{◌≡◌, ℕ, ◌-◌, ◌≤◌, Bool, true, if◌then◌else◌, List, [], ◌∷◌, ◌++◌, drop, length, replicate, Option, Some, None, is_some}
+use Rattle.std.specs.Prelude.{◌≡◌, ℕ, ◌-◌, ◌≤◌, Bool, true, if◌then◌else◌, List, [], ◌∷◌}
+use Rattle.std.specs.Prelude.{◌++◌, drop, length, replicate, Option, Some, None, is_some}
 use Rattle.std.specs.List.{fold}
 use Rattle.std.specs.Option.{option_or}
 use Rattle.rv_hardware.specs.Hardware.{Hardware}
@@ -24,7 +25,8 @@ use Rattle.rv_causes.specs.Walk.{path_to}
 use Rattle.rv_causes.specs.Way.{way_from}
 use Rattle.rv_causes.specs.declared.cause.Cause.TheVariants as cause
 use Rattle.rv_causes.specs.declared.point.Stage.TheVariants as stage
-use Rattle.rv_causes.specs.declared.{before.Before.Before, before.Facts.Facts, before.UnitHold.UnitHold, event.Event.Event, leaving.Leaving.Leaving, way.Way.Way}
+use Rattle.rv_causes.specs.declared.{before.Before.Before, before.Facts.Facts, before.UnitHold.UnitHold}
+use Rattle.rv_causes.specs.declared.{event.Event.Event, leaving.Leaving.Leaving, way.Way.Way}
 
 -- the events of the instructions in flight, oldest first, who holds units that are not pipelined, and all else that is
 -- known; and all events of the run so far, newest first

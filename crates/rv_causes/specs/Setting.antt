@@ -9,8 +9,10 @@ use Rattle.rv_passage.specs.declared.passage.Passage.{Passage}
 use Rattle.rv_causes.specs.Before.{is_same_holder, port_cause}
 use Rattle.rv_causes.specs.Event.{Wait, event_from, new_from, nothing_yet, waits}
 use Rattle.rv_causes.specs.Sought.{is_at, is_end}
-use Rattle.rv_causes.specs.declared.{before.Before.Before, before.DrainHold.DrainHold, before.Holder.Holder, before.Left.Left}
-use Rattle.rv_causes.specs.declared.{before.PortHold.PortHold, before.UnitHold.UnitHold, cause.Cause.Cause, event.Event.Event}
+use Rattle.rv_causes.specs.declared.{before.Before.Before, before.DrainHold.DrainHold}
+use Rattle.rv_causes.specs.declared.{before.Holder.Holder, before.Left.Left}
+use Rattle.rv_causes.specs.declared.{before.PortHold.PortHold, before.UnitHold.UnitHold}
+use Rattle.rv_causes.specs.declared.{cause.Cause.Cause, event.Event.Event}
 use Rattle.rv_causes.specs.declared.{point.Point.Point, point.Stage.Stage, scene.Scene.Scene}
 use Rattle.rv_causes.specs.declared.cause.Cause.TheVariants as cause
 

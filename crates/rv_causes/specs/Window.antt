@@ -1,8 +1,10 @@
 -- The events of a run from some one on, and the account of the path to that one.
-use Rattle.std.specs.Prelude.{◌≡◌, ℕ, ◌+◌, ◌≤◌, List, ◌++◌, drop, length, reverse, take, vec_capacity, Option, Some, None}
+use Rattle.std.specs.Prelude.{◌≡◌, ℕ, ◌+◌, ◌≤◌, List, ◌++◌, drop, length}
+use Rattle.std.specs.Prelude.{reverse, take, vec_capacity, Option, Some, None}
 use Rattle.rv_causes.specs.Account.{Accounted, account_of, nothing_accounted, with_path}
 use Rattle.rv_causes.specs.Walk.{AllComeTo, ComesTo, beyond, path_to}
-use Rattle.rv_causes.specs.declared.{account.Account.Account, point.Point.Point, event.Event.Event, window.Window.Window}
+use Rattle.rv_causes.specs.declared.{account.Account.Account, point.Point.Point}
+use Rattle.rv_causes.specs.declared.{event.Event.Event, window.Window.Window}
 
 -- what an account says
 abbrev pub accounted : Account → Accounted

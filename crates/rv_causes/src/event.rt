@@ -1,6 +1,7 @@
 ghost use Rattle.std.specs.Prelude.{◌≡◌, ◌+◌, ◌≤◌, ◌++◌, is_some, length, vec_capacity};
 ghost use Rattle.std.specs.Option.{option_to_list};
-ghost use Rattle.rv_causes.specs.Event.{again, anew, ends_with, event_after, event_from, event_if, goes_on_through, named_after, refill_of, refill_past, refilled_after, waits};
+ghost use Rattle.rv_causes.specs.Event.{again, anew, ends_with, event_after, event_from, event_if, goes_on_through};
+ghost use Rattle.rv_causes.specs.Event.{named_after, refill_of, refill_past, refilled_after, waits};
 
 use crate::cause::Cause;
 use crate::claim::is_so_of;

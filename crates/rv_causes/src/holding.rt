@@ -1,9 +1,12 @@
-ghost use Rattle.std.specs.Prelude.{◌≡◌, ◌+◌, ◌<◌, ◌^◌, ◌≤◌, ◌++◌, None, if◌then◌else◌, filter, is_some, length, vec_capacity};
+ghost use Rattle.std.specs.Prelude.{◌≡◌, ◌+◌, ◌<◌, ◌^◌, ◌≤◌, ◌++◌, None, if◌then◌else◌};
+ghost use Rattle.std.specs.Prelude.{filter, is_some, length, vec_capacity};
 ghost use Rattle.std.specs.Option.{option_or, option_to_list};
 ghost use Rattle.std.specs.List.{list_any};
 ghost use Rattle.rv_isa.specs.Instruction.{kind_of_word};
-ghost use Rattle.rv_causes.specs.Holding.{at_its_commit, drain_event, drain_kept, drain_of, drain_wait, ends_at, goes_beyond, hold_of, hold_of_kind};
-ghost use Rattle.rv_causes.specs.Holding.{begins_hold, is_begun, is_held, is_taken, lines_hold, load_hold, new_holds, port_event, port_kept, taken_by};
+ghost use Rattle.rv_causes.specs.Holding.{at_its_commit, drain_event, drain_kept, drain_of};
+ghost use Rattle.rv_causes.specs.Holding.{drain_wait, ends_at, goes_beyond, hold_of, hold_of_kind};
+ghost use Rattle.rv_causes.specs.Holding.{begins_hold, is_begun, is_held, is_taken, lines_hold};
+ghost use Rattle.rv_causes.specs.Holding.{load_hold, new_holds, port_event, port_kept, taken_by};
 ghost use Rattle.rv_causes.specs.Setting.{setting_of};
 
 use crate::before::{DrainHold, Facts, Holder, PortHold, UnitHold};

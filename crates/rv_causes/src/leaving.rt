@@ -1,8 +1,10 @@
 ghost use Rattle.std.specs.Prelude.{◌≡◌};
-ghost use Rattle.rv_causes.specs.Leaving.{HasAllThatLeft, cause_of_flush, flushes_late, interrupt_event, is_interrupted};
+ghost use Rattle.rv_causes.specs.Leaving.{HasAllThatLeft, cause_of_flush, flushes_late};
+ghost use Rattle.rv_causes.specs.Leaving.{interrupt_event, is_interrupted};
 ghost use Rattle.rv_causes.specs.Leaving.{is_retired_store, leaving_event, leaving_wait, lines_event};
 ghost use Rattle.rv_causes.specs.Leaving.{lines_wait, newly_left, with_event, with_left, with_row, with_rows};
-ghost use Rattle.rv_causes.specs.Leaving.{after_own_lines, after_left, first_to_leave, flush_by, known_in, leaves_after, left_by};
+ghost use Rattle.rv_causes.specs.Leaving.{after_own_lines, after_left, first_to_leave};
+ghost use Rattle.rv_causes.specs.Leaving.{flush_by, known_in, leaves_after, left_by};
 ghost use Rattle.rv_isa.specs.Instruction.{is_branch_or_jump};
 ghost use Rattle.rv_hardware.specs.Broadcast.{mends_early};
 ghost use Rattle.rv_passage.specs.Prediction.{differ};

@@ -1,5 +1,6 @@
 ghost use Rattle.std.specs.Prelude.{◌≡◌, ◌++◌, ◌∷◌, [], OnOk};
-ghost use Rattle.rv_causes.specs.Live.{before_points, drain_points, holds_points, live_points, point_of, port_points, way_points, ways_points};
+ghost use Rattle.rv_causes.specs.Live.{before_points, drain_points, holds_points, live_points};
+ghost use Rattle.rv_causes.specs.Live.{point_of, port_points, way_points, ways_points};
 
 use crate::before::{Before, DrainHold, PortHold, UnitHold};
 use crate::event::Event;

@@ -1,4 +1,5 @@
-ghost use Rattle.std.specs.Prelude.{◌≡◌, ◌++◌, ◌+◌, ◌≤◌, ◌<◌, List, drop, filter, length, not, reverse, take, vec_capacity, Option};
+ghost use Rattle.std.specs.Prelude.{◌≡◌, ◌++◌, ◌+◌, ◌≤◌, ◌<◌, List, drop, filter};
+ghost use Rattle.std.specs.Prelude.{length, not, reverse, take, vec_capacity, Option};
 ghost use Rattle.std.specs.List.{list_any};
 ghost use Rattle.rv_causes.specs.Meeting.{IsAmong, passed, with_before};
 ghost use Rattle.rv_causes.specs.Point.{is_point};

@@ -1,6 +1,7 @@
 ghost use Rattle.std.specs.Prelude.{◌≡◌, ◌+◌, ◌++◌, ◌≤◌, [], ◌∷◌, Some, length, option_copied, vec_capacity};
 ghost use Rattle.rv_causes.specs.Moving.{advance_of, advances, advances_at, after_previous, after_width, all_moved};
-ghost use Rattle.rv_causes.specs.Moving.{all_new, dispatch_wait, fills_dispatch, issue_of, moved_at, new_at, room_by_drain};
+ghost use Rattle.rv_causes.specs.Moving.{all_new, dispatch_wait, fills_dispatch};
+ghost use Rattle.rv_causes.specs.Moving.{issue_of, moved_at, new_at, room_by_drain};
 ghost use Rattle.rv_causes.specs.Moving.{room_by_issue, room_by_leaving, room_for, was_dispatched};
 ghost use Rattle.rv_causes.specs.Setting.{setting_of};
 

@@ -1,4 +1,5 @@
-ghost use Rattle.std.specs.Prelude.{◌≡◌, ◌+◌, ◌-◌, ◌≤◌, ◌<◌, ◌^◌, ◌++◌, count_by, filter, length, map, nat_lt, vec_capacity, IfOk};
+ghost use Rattle.std.specs.Prelude.{◌≡◌, ◌+◌, ◌-◌, ◌≤◌, ◌<◌, ◌^◌, ◌++◌, count_by};
+ghost use Rattle.std.specs.Prelude.{filter, length, map, nat_lt, vec_capacity, IfOk};
 ghost use Rattle.rv_passage.specs.Passage.{is_in_flight};
 ghost use Rattle.rv_causes.specs.Numbering.{numbers_in_flight, row_numbers};
 

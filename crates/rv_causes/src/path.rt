@@ -52,9 +52,12 @@ pub struct Path {
 }
 
 impl Path {
-    ghost use Rattle.rv_causes.specs.Keeping.{AreSameBeside, AreSameButBefore, AreSameButHolds, AreSameButLive, AreSameButWays, AreSameButWindow};
-    ghost use Rattle.rv_causes.specs.Keeping.{ArePathsKept, HasRoom, HasRoomForWays, IsFollowed, before_with, forgotten_in, holds_shown};
-    ghost use Rattle.rv_causes.specs.Keeping.{known_brought, known_of_path, known_shown, last_point, live_of, made_shown, ways_of};
+    ghost use Rattle.rv_causes.specs.Keeping.{AreSameBeside, AreSameButBefore, AreSameButHolds};
+    ghost use Rattle.rv_causes.specs.Keeping.{AreSameButLive, AreSameButWays, AreSameButWindow};
+    ghost use Rattle.rv_causes.specs.Keeping.{ArePathsKept, HasRoom, HasRoomForWays, IsFollowed};
+    ghost use Rattle.rv_causes.specs.Keeping.{before_with, forgotten_in, holds_shown};
+    ghost use Rattle.rv_causes.specs.Keeping.{known_brought, known_of_path, known_shown};
+    ghost use Rattle.rv_causes.specs.Keeping.{last_point, live_of, made_shown, ways_of};
     ghost use Rattle.std.specs.Prelude.{List, ◌++◌};
     ghost use Rattle.std.specs.Prelude.{◌∷◌, OnOk, Some};
     ghost use Rattle.rv_causes.specs.Account.{account_of};

@@ -58,7 +58,9 @@ fn is_hold_of(holder: Holder, number: u64, hold: Option<&PortHold>) -> bool
 
 impl<'a> Scene<'a> {
     ghost use Rattle.std.specs.Prelude.{◌∷◌, []};
-    ghost use Rattle.rv_causes.specs.Setting.{after_drain_at, after_drain_before, after_leaving, after_port, after_stores, is_hold_of, left_before, made, made_of, new_of, port_ended, setting_of};
+    ghost use Rattle.rv_causes.specs.Setting.{after_drain_at, after_drain_before, after_leaving};
+    ghost use Rattle.rv_causes.specs.Setting.{after_port, after_stores, is_hold_of, left_before};
+    ghost use Rattle.rv_causes.specs.Setting.{made, made_of, new_of, port_ended, setting_of};
 
     /// The event of the cycle at a point, of an address, by what it waited for.
     #[inline(never)]

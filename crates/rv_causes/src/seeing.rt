@@ -1,4 +1,5 @@
-ghost use Rattle.std.specs.Prelude.{◌≡◌, ◌+◌, ◌++◌, ◌≤◌, Some, None, drop, false, length, option_copied, slice_get, true, vec_capacity};
+ghost use Rattle.std.specs.Prelude.{◌≡◌, ◌+◌, ◌++◌, ◌≤◌, Some, None, drop, false, length};
+ghost use Rattle.std.specs.Prelude.{option_copied, slice_get, true, vec_capacity};
 ghost use Rattle.rv_causes.specs.Fetching.{fetch_event, fetch_of, fetched_by, handled, new_fetch_of, new_fetched};
 ghost use Rattle.rv_causes.specs.Holding.{port_event, port_taken, taken_by};
 ghost use Rattle.rv_causes.specs.Keeping.{IsSeen, before_with, setting_by};

@@ -1,7 +1,8 @@
 ghost use Rattle.std.specs.Prelude.{◌≡◌, [], option_copied};
 ghost use Rattle.rv_isa.specs.Instruction.{is_store};
 ghost use Rattle.rv_decode.specs.Decodes.{instruction_of};
-ghost use Rattle.rv_causes.specs.WaitingStores.{entered, oldest, still_waiting, store_in, with_queue, with_queued, with_retired, with_steps};
+ghost use Rattle.rv_causes.specs.WaitingStores.{entered, oldest, still_waiting, store_in};
+ghost use Rattle.rv_causes.specs.WaitingStores.{with_queue, with_queued, with_retired, with_steps};
 
 use crate::before::is_waiting;
 use arrayvec::ArrayVec;

@@ -1,7 +1,9 @@
-ghost use Rattle.std.specs.Prelude.{◌≡◌, ◌+◌, ◌≤◌, ◌∷◌, [], List, drop, length, reverse, slice_get, take, vec_capacity, ℕ, IfOk, IsTrue, OnErr, OnOk, Option, Some};
+ghost use Rattle.std.specs.Prelude.{◌≡◌, ◌+◌, ◌≤◌, ◌∷◌, [], List, drop, length, reverse, slice_get};
+ghost use Rattle.std.specs.Prelude.{take, vec_capacity, ℕ, IfOk, IsTrue, OnErr, OnOk, Option, Some};
 ghost use Rattle.rv_causes.specs.Account.{account_of};
 ghost use Rattle.rv_causes.specs.Walk.{path_to};
-ghost use Rattle.rv_causes.specs.Window.{AllPass, AreAlike, AreSameButAccount, HasRoomFor, HasRoomForEvents, IsMoved, IsWindow, Passes, account_at, account_to, accounted, kept_events};
+ghost use Rattle.rv_causes.specs.Window.{AllPass, AreAlike, AreSameButAccount, HasRoomFor, HasRoomForEvents};
+ghost use Rattle.rv_causes.specs.Window.{IsMoved, IsWindow, Passes, account_at, account_to, accounted, kept_events};
 ghost use Rattle.rv_causes.specs.declared.{point.Point.Point, event.Event.Event};
 
 use crate::account::Account;

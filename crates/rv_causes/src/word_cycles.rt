@@ -1,4 +1,5 @@
-ghost use Rattle.std.specs.Prelude.{◌≡◌, ◌+◌, ◌≤◌, ◌<◌, ◌^◌, [], length, insert, slice_index_or, vec_capacity, vec_len, IfErr, IfOk, sum};
+ghost use Rattle.std.specs.Prelude.{◌≡◌, ◌+◌, ◌≤◌, ◌<◌, ◌^◌, [], length, insert};
+ghost use Rattle.std.specs.Prelude.{slice_index_or, vec_capacity, vec_len, IfErr, IfOk, sum};
 ghost use Rattle.rv_causes.specs.Account.{CanHaveMore, no_cycles, with_change, with_cycles, with_more};
 ghost use Rattle.rv_causes.specs.declared.word_cycles.WordCycles.{WordCycles};
 ghost use Rattle.rv_causes.specs.Words.{IsInOrder, IsInOrder-prop, IsPlaceFor, IsPlaceOf, StandsFor};

@@ -1,5 +1,7 @@
 -- What `--also` asks for.
-use Rattle.std.specs.Prelude.{ℕ, ◌+◌, ◌==◌, nat_lt, Bool, true, false, ◌||◌, if◌then◌else◌, List, drop, length, position, take, slice_get, Option, Some, None, codes, is_some, ok_or, option_and_then, Result, Ok, Err}
+use Rattle.std.specs.Prelude.{ℕ, ◌+◌, ◌==◌, nat_lt, Bool, true, false, ◌||◌, if◌then◌else◌}
+use Rattle.std.specs.Prelude.{List, drop, length, position, take, slice_get, Option, Some}
+use Rattle.std.specs.Prelude.{None, codes, is_some, ok_or, option_and_then, Result, Ok, Err}
 use Rattle.std.specs.{Option.option_map, Option.option_map_or, Str.bytes_eq}
 use Rattle.clap.specs.Words.{Row, Text}
 use Rattle.rv_asm.specs.Statement.{and_then}
@@ -14,7 +16,8 @@ use Rattle.rv_sensitivity.specs.declared.setting.KeyValue.TheVariants as value
 use Rattle.rv_command.specs.Given.{texts_of}
 use Rattle.rv_command.specs.LoneToken.{lone_token}
 use Rattle.rv_command.specs.declared.also_fault.{AlsoFault.AlsoFault, Reason.Reason}
-use Rattle.rv_command.specs.declared.also_fault.Reason.TheVariants.{TooMany, UnknownKey, OtherKey, NoValue, WrongValue, SetTwice}
+use Rattle.rv_command.specs.declared.also_fault.Reason.TheVariants.{TooMany, UnknownKey, OtherKey}
+use Rattle.rv_command.specs.declared.also_fault.Reason.TheVariants.{NoValue, WrongValue, SetTwice}
 
 -- the number that a token is
 abbrev pub number_by : Token → Option ℕ

@@ -5,7 +5,8 @@ use Rattle.rv_describe.specs.KeyRange.{key_range}
 use Rattle.rv_isa.specs.Key.{text_of}
 use Rattle.rv_isa.specs.declared.keys.Key.{Key}
 use Rattle.rv_command.specs.declared.also_fault.Reason.{Reason}
-use Rattle.rv_command.specs.declared.also_fault.Reason.TheVariants.{TooMany, UnknownKey, OtherKey, NoValue, WrongValue, SetTwice}
+use Rattle.rv_command.specs.declared.also_fault.Reason.TheVariants.{TooMany, UnknownKey, OtherKey}
+use Rattle.rv_command.specs.declared.also_fault.Reason.TheVariants.{NoValue, WrongValue, SetTwice}
 
 -- a key, and the values that it takes
 abbrev pub range_of : Key → Text

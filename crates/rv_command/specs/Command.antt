@@ -1,7 +1,8 @@
 -- What the words of a command line ask for.
 use Rattle.std.specs.Prelude.{◌≤◌, ◌<◌, ◌+◌, ⊤, ℕ, Bool, List, [], ◌∷◌, Option, Some, None, false, codes}
 use Rattle.std.specs.Prelude.{if◌then◌else◌, option_and_then, option_map}
-use Rattle.std.specs.{Option.option_map_or, Result.result_ok, Str.bytes_eq, Str.Parse.digits_value, Str.Parse.without_leading_plus}
+use Rattle.std.specs.{Option.option_map_or, Result.result_ok, Str.bytes_eq}
+use Rattle.std.specs.{Str.Parse.digits_value, Str.Parse.without_leading_plus}
 use Rattle.clap.specs.ValueTests.{is_unsigned_in}
 use Rattle.clap.specs.Walk.{is_empty}
 use Rattle.clap.specs.Kinds.{or_else}
@@ -9,11 +10,13 @@ use Rattle.clap.specs.Words.{Kinds, Row, Text, fault_of, one_of, subcommand_of}
 use Rattle.clap.specs.declared.error.kind.ErrorKind.TheVariants.{ValueValidation}
 use Rattle.rv_command.specs.Also.{also_in}
 use Rattle.rv_command.specs.AlsoLine as also
-use Rattle.rv_command.specs.Arguments.{last_cycle, most_cycles_shown, most_cycles_of_states, most_steps, program_arguments}
+use Rattle.rv_command.specs.Arguments.{last_cycle, most_cycles_shown, most_cycles_of_states}
+use Rattle.rv_command.specs.Arguments.{most_steps, program_arguments}
 use Rattle.rv_command.specs.ShowLine as show
 use Rattle.rv_command.specs.Shown.{columns_in}
 use Rattle.rv_command.specs.declared.command.Command.{Command}
-use Rattle.rv_command.specs.declared.command.Command.TheVariants.{Run, Reference, Check, Picture, Log, States, Page, Explain, Profile, Path, Compare, Sensitivity}
+use Rattle.rv_command.specs.declared.command.Command.TheVariants.{Run, Reference, Check, Picture, Log, States, Page}
+use Rattle.rv_command.specs.declared.command.Command.TheVariants.{Explain, Profile, Path, Compare, Sensitivity}
 
 -- the limit of a run is 1 to 1,000,000
 abbrev pub IsLegalLimit : ℕ → Type 0

@@ -1,5 +1,6 @@
 -- What `--show` names.
-use Rattle.std.specs.Prelude.{ℕ, ◌%◌, ◌==◌, nat_lt, if◌then◌else◌, List, length, slice_get, Option, Some, None, codes, option_and_then}
+use Rattle.std.specs.Prelude.{ℕ, ◌%◌, ◌==◌, nat_lt, if◌then◌else◌, List, length}
+use Rattle.std.specs.Prelude.{slice_get, Option, Some, None, codes, option_and_then}
 use Rattle.std.specs.{Option.option_map, Option.option_map_or, Str.bytes_eq}
 use Rattle.clap.specs.Words.{Row, Text}
 use Rattle.rv_asm.specs.Names.{register_named}

@@ -5,7 +5,8 @@ ghost use Rattle.rv_isa.specs.Choice.{recovery_named};
 ghost use Rattle.rv_isa.specs.Key.{text_of};
 ghost use Rattle.std.specs.Str.{bytes_eq};
 ghost use Rattle.rv_command.specs.Also.{also_in, column_of, index_named, is_equals, is_of_one_key, is_tried, key_at};
-ghost use Rattle.rv_command.specs.Also.{made, no_setting, number_by, number_named, repeated, set_at, set_once, setting_named, setting_of};
+ghost use Rattle.rv_command.specs.Also.{made, no_setting, number_by, number_named, repeated};
+ghost use Rattle.rv_command.specs.Also.{set_at, set_once, setting_named, setting_of};
 ghost use Rattle.rv_command.specs.Also.{settings_of, taken, tried_key, truth_named, value_at};
 
 use crate::also_fault::{AlsoFault, Reason};

@@ -1,9 +1,12 @@
 //! The arguments of the program, as `clap` is given them.
 ghost use Rattle.std.specs.Prelude.{◌≡◌, false, IfOk};
 ghost use Rattle.clap.specs.Words.{App, Rule, new_app, rule_of, with_rule, with_subcommand};
-ghost use Rattle.rv_command.specs.Arguments.{IsParserOf, check_arguments, compare_arguments, flag_rule, flagged_arguments, from_rule, limit_rule};
-ghost use Rattle.rv_command.specs.Arguments.{also_rule, limited_arguments, number_rule, picture_arguments, program_arguments, sensitivity_arguments, show_rule};
-ghost use Rattle.rv_command.specs.Arguments.{bare_arguments, bare_picture_arguments, explain_arguments, stretch_arguments, stretch_from_arguments};
+ghost use Rattle.rv_command.specs.Arguments.{IsParserOf, check_arguments, compare_arguments};
+ghost use Rattle.rv_command.specs.Arguments.{flag_rule, flagged_arguments, from_rule, limit_rule};
+ghost use Rattle.rv_command.specs.Arguments.{also_rule, limited_arguments, number_rule, picture_arguments};
+ghost use Rattle.rv_command.specs.Arguments.{program_arguments, sensitivity_arguments, show_rule};
+ghost use Rattle.rv_command.specs.Arguments.{bare_arguments, bare_picture_arguments, explain_arguments};
+ghost use Rattle.rv_command.specs.Arguments.{stretch_arguments, stretch_from_arguments};
 
 use crate::command::{LAST_CYCLE, MOST_CYCLES_OF_STATES, MOST_CYCLES_SHOWN, MOST_STEPS};
 use crate::help::{self, CommandHelp, FlaggedHelp, LimitedHelp};

@@ -3,8 +3,10 @@ ghost use Rattle.std.specs.Option.{option_map_or};
 ghost use Rattle.std.specs.Result.{result_ok};
 ghost use Rattle.clap.specs.Words.{FailsBy, HasKind, app_of, fault_of, found_of, kind_of, rows_of, subcommand_rows_of};
 ghost use Rattle.rv_command.specs.Arguments.{program_arguments};
-ghost use Rattle.rv_command.specs.Command.{HasLegalNumbers, IsLegalLimit, IsLegalStretch, command_named, command_of, flag_in, limit_in, limited_named, number_in};
-ghost use Rattle.rv_command.specs.Command.{compare_in, explain_in, page_in, picture_in, profile_in, refused_kinds, run_in, said_of, said_of_words, sensitivity_in, states_in, stretch_in};
+ghost use Rattle.rv_command.specs.Command.{HasLegalNumbers, IsLegalLimit, IsLegalStretch, command_named};
+ghost use Rattle.rv_command.specs.Command.{command_of, flag_in, limit_in, limited_named, number_in};
+ghost use Rattle.rv_command.specs.Command.{compare_in, explain_in, page_in, picture_in, profile_in, refused_kinds};
+ghost use Rattle.rv_command.specs.Command.{run_in, said_of, said_of_words, sensitivity_in, states_in, stretch_in};
 
 use crate::also::also_given;
 use crate::arguments::parser;

@@ -1,7 +1,8 @@
 ghost use Rattle.std.specs.Prelude.{◌≡◌, IfOk, map, option_map};
 ghost use Rattle.std.specs.List.{find};
 ghost use Rattle.clap.specs.Words.{found_of, rows_of};
-ghost use Rattle.rv_command.specs.ShowLine.{line_in, names_nothing, nothing_line, said_of_text, show_line, what_is_shown};
+ghost use Rattle.rv_command.specs.ShowLine.{line_in, names_nothing, nothing_line};
+ghost use Rattle.rv_command.specs.ShowLine.{said_of_text, show_line, what_is_shown};
 
 use crate::shown::{MOST_SHOWN, named};
 use clap::ArgMatches;

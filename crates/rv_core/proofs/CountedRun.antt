@@ -1,6 +1,8 @@
 -- A run whose steps are counted: what was counted so far, one cycle more, and the end.
-use Rattle.rv_core.proofs.Words.{◌≡◌, ℕ, ◌+◌, ◌*◌, ◌^◌, ◌<◌, ◌≤◌, List, [], ◌∷◌, ◌++◌, length, Some, None, Option, Ok, sym, refl, ◌∙◌, subst}
-use Rattle.rv_core.proofs.Words.{arith, count_by-le-length, Arrival, Stop, Hardware, IsStop, steps_of, Guide, GuidedHardware, guided, reports_of, Step}
+use Rattle.rv_core.proofs.Words.{◌≡◌, ℕ, ◌+◌, ◌*◌, ◌^◌, ◌<◌, ◌≤◌, List, [], ◌∷◌, ◌++◌}
+use Rattle.rv_core.proofs.Words.{length, Some, None, Option, Ok, sym, refl, ◌∙◌, subst}
+use Rattle.rv_core.proofs.Words.{arith, count_by-le-length, Arrival, Stop, Hardware, IsStop}
+use Rattle.rv_core.proofs.Words.{steps_of, Guide, GuidedHardware, guided, reports_of, Step}
 use Rattle.rv_core.proofs.Words.{IsWatchedRun, Watched, Progress, progress_of}
 use Rattle.std.specs.Prelude.{Bool, cond, count_by}
 use Rattle.std.proofs.lemmas.List.Sums.{sum_by-cons}
@@ -10,7 +12,8 @@ use Rattle.rv_core.specs.Counted.{AreCounts, IsCountedRun}
 use Rattle.rv_core.specs.Steps.{HasRoom, Takes}
 use Rattle.rv_core.specs.declared.counting.Counted.{Counted}
 use Rattle.rv_core.specs.declared.steps.Steps.{Steps}
-use Rattle.rv_watch.proofs.Shown.{IsWatching, moments_counted, shown_steps-push, watched_to, watched_to_stop, watching_nothing, watching_on}
+use Rattle.rv_watch.proofs.Shown.{IsWatching, moments_counted, shown_steps-push, watched_to}
+use Rattle.rv_watch.proofs.Shown.{watched_to_stop, watching_nothing, watching_on}
 use Rattle.rv_core.proofs.RunCycles.{next_reported}
 use Rattle.rv_core.proofs.Taken.{takes_more, takes_none}
 use Rattle.rv_core.specs.Taking.{TakesNextCycle}

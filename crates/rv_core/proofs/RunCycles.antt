@@ -1,5 +1,6 @@
 -- What is reported of the cycles of a run, with each cycle that comes.
-use Rattle.rv_core.proofs.Words.{◌≡◌, subst, lines_at, Lines, Guide, Hardware, Reachable, guided, IsCommitStop, Stop, Option}
+use Rattle.rv_core.proofs.Words.{◌≡◌, subst, lines_at, Lines, Guide, Hardware}
+use Rattle.rv_core.proofs.Words.{Reachable, guided, IsCommitStop, Stop, Option}
 use Rattle.rv_core.proofs.Words.{IsNextCycle, report_with, reported_with, List, [], refl, ◌∙◌, Arrival}
 use Rattle.rv_core.proofs.Words.{Report, steps_of, GuidedCycles, GuidedHardware, guided_ended as ended, Step}
 use Rattle.rv_core.proofs.Words.{progress_after, progress_of, IsRun, Progress}

@@ -1,5 +1,6 @@
 -- What takes steps, through some and some more of them: what it lists, and the room that is left.
-use Rattle.rv_core.proofs.Words.{◌≡◌, ℕ, Bool, ◌+◌, ◌≤◌, true, is_some, List, [], ◌∷◌, ◌++◌, length, ◌==◌, sym, refl, ap, ◌∙◌, append_assoc}
+use Rattle.rv_core.proofs.Words.{◌≡◌, ℕ, Bool, ◌+◌, ◌≤◌, true, is_some, List, [], ◌∷◌}
+use Rattle.rv_core.proofs.Words.{◌++◌, length, ◌==◌, sym, refl, ap, ◌∙◌, append_assoc}
 use Rattle.rv_core.proofs.Words.{append-nil, arith, length-append, count_by-le-length, is_silent, Step, ne_eqb, eq-eqb}
 use Rattle.std.proofs.lemmas.List.Sums.{sum_by-append}
 use Rattle.std.specs.Prelude.{count_by}

@@ -117,11 +117,13 @@ pub use Rattle.rv_core.specs.HeadTurn.{lessons_left, role_of, stop_after, stop_w
 pub use Rattle.rv_core.specs.Load.{bytes_over, goes, is_forwarded, is_known_before, load_fault, may_go, needs_port}
 pub use Rattle.rv_core.specs.Load.{path_of, path_unless, store_fault}
 pub use Rattle.rv_core.specs.Parts.{IsSound, hardware_of}
-pub use Rattle.rv_watch.specs.Progress.{IsBounded, IsCommitStop, IsNextCycle, last_stall_of, progress_after, progress_of}
+pub use Rattle.rv_watch.specs.Progress.{IsBounded, IsCommitStop, IsNextCycle}
+pub use Rattle.rv_watch.specs.Progress.{last_stall_of, progress_after, progress_of}
 pub use Rattle.rv_watch.specs.Progress.{silence_after, silence_from}
 pub use Rattle.rv_core.specs.Reached.{IsBegun}
 pub use Rattle.rv_core.specs.Retiring.{registers_with, with_commit, without_target}
-pub use Rattle.rv_core.specs.RunDone.{IsCutShort, IsDone, IsOutcome, IsRun, KeepsPromise, reported, reported_so_far, reported_with}
+pub use Rattle.rv_core.specs.RunDone.{IsCutShort, IsDone, IsOutcome, IsRun, KeepsPromise}
+pub use Rattle.rv_core.specs.RunDone.{reported, reported_so_far, reported_with}
 pub use Rattle.rv_core.specs.Soundness.{AreSoundEntries, AreSoundStores, IsDecoded, IsDescribedCache, IsLegalAccess}
 pub use Rattle.rv_core.specs.Soundness.{IsLegalWrite, IsRetiredStore, IsSoundEntry, IsSoundHardware, message_of}
 pub use Rattle.rv_core.specs.Ties.{AreTied, bus_of, checkpoints_of, operand_of, pending_from, pending_of, pool_of_kind}

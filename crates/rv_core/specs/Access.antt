@@ -4,7 +4,8 @@ use Rattle.std.specs.List.{All}
 use Rattle.rv_isa.specs.Operands.{kind_of}
 use Rattle.rv_isa.specs.Operation.{bytes_of, width_of}
 use Rattle.rv_isa.specs.Word.{modulo_word, sum}
-use Rattle.rv_isa.specs.declared.{broadcast.Message.Message, instructions.Instr.Instr, lines.Lines.Lines, operations.LoadForm.LoadForm}
+use Rattle.rv_isa.specs.declared.{broadcast.Message.Message, instructions.Instr.Instr}
+use Rattle.rv_isa.specs.declared.{lines.Lines.Lines, operations.LoadForm.LoadForm}
 use Rattle.rv_isa.specs.declared.instructions.Instr.TheVariants.{Load}
 use Rattle.rv_arch.specs.Effect.{loads}
 use Rattle.rv_arch.specs.State.{State}
@@ -15,7 +16,8 @@ use Rattle.rv_stores.specs.Queue.{Queue, older_than}
 use Rattle.rv_stores.specs.declared.store.{Store.Store, StoreState.StoreState}
 use Rattle.rv_stores.specs.declared.store.StoreState.TheVariants.{Waiting, Faulted, Filled}
 use Rattle.rv_hardware.specs.InFlight.{bytes_after}
-use Rattle.rv_hardware.specs.Issue.{Path as DefinedPath, Without as DefinedWithout, FromStores as DefinedFromStores, FromCache as DefinedFromCache}
+use Rattle.rv_hardware.specs.Issue.{Path as DefinedPath, Without as DefinedWithout}
+use Rattle.rv_hardware.specs.Issue.{FromStores as DefinedFromStores, FromCache as DefinedFromCache}
 use Rattle.rv_hardware.specs.Result.{effect_message, result_in}
 use Rattle.rv_core.specs.Execution.{Reads}
 use Rattle.rv_core.specs.Load.{path_of}

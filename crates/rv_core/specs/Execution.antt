@@ -1,7 +1,8 @@
 -- What an instruction that leaves its station reads.
 use Rattle.std.specs.Prelude.{◌≡◌, ℕ, Bool, true, false, [], ◌∷◌, map, Option, Some, None}
 use Rattle.rv_isa.specs.Operands.{sources_of}
-use Rattle.rv_isa.specs.declared.{broadcast.Message.Message, instructions.Instr.Instr, lines.Lines.Lines, operations.Kind.Kind}
+use Rattle.rv_isa.specs.declared.{broadcast.Message.Message, instructions.Instr.Instr}
+use Rattle.rv_isa.specs.declared.{lines.Lines.Lines, operations.Kind.Kind}
 use Rattle.rv_isa.specs.declared.operations.Kind.TheVariants.{Alu, Mul, Div, Mem}
 use Rattle.rv_arch.specs.State.{State, register_of}
 use Rattle.rv_hardware.specs.Result.{result_in}

@@ -1,10 +1,12 @@
 -- Where a load takes its bytes from: the older stores or the cache.
-use Rattle.std.specs.Prelude.{ℕ, ◌&&◌, ◌||◌, not, nat_lt, Bool, true, false, if◌then◌else◌, List, [], ◌∷◌, map, take, slice_index, slice_index_or, Option, Some, None, is_some}
+use Rattle.std.specs.Prelude.{ℕ, ◌&&◌, ◌||◌, not, nat_lt, Bool, true, false, if◌then◌else◌, List, []}
+use Rattle.std.specs.Prelude.{◌∷◌, map, take, slice_index, slice_index_or, Option, Some, None, is_some}
 use Rattle.std.specs.{List.list_all, Option.unwrap_or}
 use Rattle.rv_isa.specs.Operation.{bytes_of, width_of}
 use Rattle.rv_isa.specs.Word.{modulo_word, sum}
 use Rattle.rv_isa.specs.declared.{causes.Cause.Cause, instructions.Instr.Instr, operations.Kind.Kind}
-use Rattle.rv_isa.specs.declared.causes.Cause.TheVariants.{LoadAddressMisaligned, LoadAccessFault, StoreAddressMisaligned, StoreAccessFault}
+use Rattle.rv_isa.specs.declared.causes.Cause.TheVariants.{LoadAddressMisaligned, LoadAccessFault}
+use Rattle.rv_isa.specs.declared.causes.Cause.TheVariants.{StoreAddressMisaligned, StoreAccessFault}
 use Rattle.rv_isa.specs.declared.instructions.Instr.TheVariants.{Load}
 use Rattle.rv_isa.specs.declared.operations.Kind.TheVariants.{Alu, Mul, Div, Mem}
 use Rattle.rv_cache.specs.Cache.{Contents}

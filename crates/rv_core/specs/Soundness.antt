@@ -1,10 +1,12 @@
 -- What holds of the hardware between two phases of a cycle.
-use Rattle.std.specs.Prelude.{◌≡◌, ℕ, ◌+◌, ◌*◌, ◌^◌, ◌<◌, ◌≤◌, Bool, true, false, List, length, Option, Some, None, option_and_then, IfSome}
+use Rattle.std.specs.Prelude.{◌≡◌, ℕ, ◌+◌, ◌*◌, ◌^◌, ◌<◌, ◌≤◌, Bool, true, false, List}
+use Rattle.std.specs.Prelude.{length, Option, Some, None, option_and_then, IfSome}
 use Rattle.std.specs.List.{All, AllPairs}
 use Rattle.rv_isa.specs.Description.{IsLegal}
 use Rattle.rv_isa.specs.Instruction.{is_serialising, is_store, target_of_word}
 use Rattle.rv_isa.specs.Numbered.{AreBelow}
-use Rattle.rv_isa.specs.declared.{broadcast.Message.Message, broadcast.StoreAccess.StoreAccess, causes.Fault.Fault, values.Values.Values}
+use Rattle.rv_isa.specs.declared.{broadcast.Message.Message, broadcast.StoreAccess.StoreAccess}
+use Rattle.rv_isa.specs.declared.{causes.Fault.Fault, values.Values.Values}
 use Rattle.rv_decode.specs.Decodes.{instruction_of}
 use Rattle.rv_memory.specs.Memory.{Memory}
 use Rattle.rv_cache.specs.Cache.{Contents, IsAligned}

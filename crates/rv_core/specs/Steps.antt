@@ -1,5 +1,6 @@
 -- What takes the steps of cycles: what it lists, what it has room for, and what it holds after more of them.
-use Rattle.std.specs.Prelude.{◌≡◌, ℕ, ◌+◌, ◌^◌, ◌<◌, ◌≤◌, List, [], ◌++◌, length, count_by, true, is_some, Option, Some, None, vec_capacity}
+use Rattle.std.specs.Prelude.{◌≡◌, ℕ, ◌+◌, ◌^◌, ◌<◌, ◌≤◌, List, [], ◌++◌, length}
+use Rattle.std.specs.Prelude.{count_by, true, is_some, Option, Some, None, vec_capacity}
 use Rattle.std.specs.Global.{Vec}
 use Rattle.rv_hardware.specs.Step.{is_interrupt, is_trap}
 use Rattle.rv_hardware.specs.declared.step.Step.{Step}

@@ -1,4 +1,5 @@
-ghost use Rattle.std.specs.Prelude.{◌≡◌, ℕ, ◌<◌, ◌≤◌, ◌^◌, ◌&&◌, nat_le, length, true, false, None, Some, IfSome, option_and_then};
+ghost use Rattle.std.specs.Prelude.{◌≡◌, ℕ, ◌<◌, ◌≤◌, ◌^◌, ◌&&◌, nat_le, length};
+ghost use Rattle.std.specs.Prelude.{true, false, None, Some, IfSome, option_and_then};
 ghost use Rattle.std.specs.List.{AllPairs, list_any};
 ghost use Rattle.rv_isa.specs.Instruction.{is_branch_or_jump, is_serialising, is_store, target_of_word, kind_of_word};
 ghost use Rattle.rv_isa.specs.Numbered.{AreBelow};
@@ -10,7 +11,8 @@ ghost use Rattle.rv_rob.specs.ReorderBuffer.{next_number, pushed};
 ghost use Rattle.rv_stations.specs.Waiting.{IsOperand, seq_of};
 ghost use Rattle.rv_stores.specs.Queue.{CanEnter};
 ghost use Rattle.rv_hardware.specs.Broadcast.{mends_early};
-ghost use Rattle.rv_hardware.specs.Dispatch.{dispatch, dispatch_turn, entry_of_fetched, first_stage, reason_of, stall_of};
+ghost use Rattle.rv_hardware.specs.Dispatch.{dispatch, dispatch_turn, entry_of_fetched};
+ghost use Rattle.rv_hardware.specs.Dispatch.{first_stage, reason_of, stall_of};
 ghost use Rattle.rv_hardware.specs.Hardware.{Hardware};
 ghost use Rattle.rv_hardware.specs.InFlight.{broadcast_of};
 ghost use Rattle.rv_core.specs.Entering.{are_full_for, with_instruction, with_jump, with_store, with_target};

@@ -1,4 +1,5 @@
-ghost use Rattle.std.specs.Prelude.{◌≡◌, ◌+◌, ◌^◌, ◌<◌, ◌≤◌, ◌↔◌, ◌==◌, false, None, is_some, length, nat_le, IsTrue, IfOk, IfErr};
+ghost use Rattle.std.specs.Prelude.{◌≡◌, ◌+◌, ◌^◌, ◌<◌, ◌≤◌, ◌↔◌, ◌==◌, false, None};
+ghost use Rattle.std.specs.Prelude.{is_some, length, nat_le, IsTrue, IfOk, IfErr};
 ghost use Rattle.rv_isa.specs.Description.{IsLegal};
 ghost use Rattle.rv_hardware.specs.Headline.{IsTrueCycle};
 ghost use Rattle.rv_hardware.specs.Run.{Reachable};

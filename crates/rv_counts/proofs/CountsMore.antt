@@ -1,12 +1,14 @@
 -- The counts at an address, with one passage more or one more cycle at the head.
-use Rattle.std.proofs.Common.{◌≡◌, ◌∙◌, ℕ, ◌+◌, ◌==◌, Bool, true, false, List, [], ◌∷◌, length, filter, count_by, Option, Some, None, cond, refl, ap, sym, arith, eq-eqb, ne_eqb}
+use Rattle.std.proofs.Common.{◌≡◌, ◌∙◌, ℕ, ◌+◌, ◌==◌, Bool, true, false, List, [], ◌∷◌, length, filter}
+use Rattle.std.proofs.Common.{count_by, Option, Some, None, cond, refl, ap, sym, arith, eq-eqb, ne_eqb}
 use Rattle.std.specs.List.{cons_option, filter_map}
 use Rattle.std.proofs.lemmas.List.Sums.{sum_by-cons}
 use Rattle.rv_passage.specs.Passage.{is_retirement, is_squash}
 use Rattle.rv_passage.specs.Prediction.{is_mispredicted}
 use Rattle.rv_passage.specs.declared.passage.{Ending.Ending, Passage.Passage}
 use Rattle.rv_passage.specs.declared.passage.Ending.TheVariants as ending
-use Rattle.rv_counts.specs.Counts.{added, counts_at, counts_of, is_at, nothing_at, once_more_at_head, one_more, retired_of, times_of, with_ended, with_retired}
+use Rattle.rv_counts.specs.Counts.{added, counts_at, counts_of, is_at, nothing_at, once_more_at_head}
+use Rattle.rv_counts.specs.Counts.{one_more, retired_of, times_of, with_ended, with_retired}
 use Rattle.rv_counts.specs.Load.{is_hit, is_miss, load_cost}
 use Rattle.rv_counts.specs.Passing.{broadcast_wait, dispatch_wait, issue_wait, retirement_wait}
 use Rattle.rv_counts.specs.Wait.{waited, with_wait}

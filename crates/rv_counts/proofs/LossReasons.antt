@@ -1,5 +1,6 @@
 -- The places of a cycle are lost for what ended its dispatch phase.
-use Rattle.std.proofs.Common.{◌≡◌, ◌∙◌, ◌⊎◌, ℕ, suc, ◌^◌, ◌<◌, ◌≤◌, ◌&&◌, nat_le, Bool, true, false, cond, List, [], ◌∷◌, ◌++◌, length, Option, Some, None, inl, inr, refl, ap, sym, arith, lt-ltb, le-ltb}
+use Rattle.std.proofs.Common.{◌≡◌, ◌∙◌, ◌⊎◌, ℕ, suc, ◌^◌, ◌<◌, ◌≤◌, ◌&&◌, nat_le, Bool, true, false, cond, List, []}
+use Rattle.std.proofs.Common.{◌∷◌, ◌++◌, length, Option, Some, None, inl, inr, refl, ap, sym, arith, lt-ltb, le-ltb}
 use Rattle.std.specs.List.{slice_get}
 use Rattle.rv_isa.specs.Arrivals.{lines_at}
 use Rattle.rv_isa.specs.Instruction.{is_store, kind_of_word}
@@ -7,7 +8,8 @@ use Rattle.rv_isa.specs.declared.{lines.Arrival.Arrival, lines.Lines.Lines, oper
 use Rattle.rv_cache.specs.WriteBack.{Each}
 use Rattle.rv_front.specs.declared.fetched.Fetched.{Fetched}
 use Rattle.rv_hardware.specs.Cycle.{IsCycle, any_prediction}
-use Rattle.rv_hardware.specs.Dispatch.{Dispatching, dispatch, dispatch_turn, dispatch_turn_of, dispatch_unless, has_full_stations, reason_of}
+use Rattle.rv_hardware.specs.Dispatch.{Dispatching, dispatch, dispatch_turn, dispatch_turn_of}
+use Rattle.rv_hardware.specs.Dispatch.{dispatch_unless, has_full_stations, reason_of}
 use Rattle.rv_hardware.specs.Guided.{GuidedHardware}
 use Rattle.rv_hardware.specs.Hardware.{Hardware}
 use Rattle.rv_hardware.specs.History.{History, Moment, ended, cycled}
@@ -17,11 +19,13 @@ use Rattle.rv_hardware.specs.Seen.{stores_after}
 use Rattle.rv_hardware.specs.declared.report.Stall.{Stall}
 use Rattle.rv_hardware.specs.declared.report.Stall.TheVariants as stall
 use Rattle.rv_hardware.proofs.AnyPrediction.{any_cycle}
-use Rattle.rv_hardware.proofs.Marks.History.{Anything, Passed, dispatching, history_passes, reachable_has_history, sent_all}
+use Rattle.rv_hardware.proofs.Marks.History.{Anything, Passed, dispatching, history_passes}
+use Rattle.rv_hardware.proofs.Marks.History.{reachable_has_history, sent_all}
 use Rattle.rv_hardware.proofs.Marks.Sound.{SoundFetched}
 use Rattle.rv_hardware.proofs.Repeated.{Leads, turns_within}
 use Rattle.rv_hardware.proofs.Turns.Fetch.{IsNew}
-use Rattle.rv_counts.specs.Places.{AreLostFor, awaited_in, has_serialising, loss_by, loss_in, loss_of, loss_of_kind, places_in, stall_for}
+use Rattle.rv_counts.specs.Places.{AreLostFor, awaited_in, has_serialising, loss_by}
+use Rattle.rv_counts.specs.Places.{loss_in, loss_of, loss_of_kind, places_in, stall_for}
 use Rattle.rv_counts.specs.declared.run_places.Loss.{Loss}
 use Rattle.rv_counts.specs.declared.run_places.Loss.TheVariants as loss
 

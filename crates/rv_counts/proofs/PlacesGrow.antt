@@ -10,8 +10,11 @@ use Rattle.rv_hardware.specs.Hardware.{Hardware}
 use Rattle.rv_hardware.specs.History.{History, Moment, ended, cycled}
 use Rattle.rv_hardware.specs.Report.{Report}
 use Rattle.rv_hardware.specs.declared.step.Step.{Step}
-use Rattle.rv_counts.specs.Places.{AddUp, all_lost, all_places, all_squashed, cycle_places, cycle_total, dispatched_in, places_by, places_from, places_in, places_of, no_places, with_cycle, with_lost, with_squashed}
-use Rattle.rv_counts.specs.declared.run_places.{CyclePlaces.CyclePlaces, Flush.Flush, Loss.Loss, Lost.Lost, Places.Places, Squashed.Squashed}
+use Rattle.rv_counts.specs.Places.{AddUp, all_lost, all_places, all_squashed, cycle_places}
+use Rattle.rv_counts.specs.Places.{cycle_total, dispatched_in, places_by, places_from, places_in}
+use Rattle.rv_counts.specs.Places.{places_of, no_places, with_cycle, with_lost, with_squashed}
+use Rattle.rv_counts.specs.declared.run_places.{CyclePlaces.CyclePlaces, Flush.Flush, Loss.Loss}
+use Rattle.rv_counts.specs.declared.run_places.{Lost.Lost, Places.Places, Squashed.Squashed}
 use Rattle.rv_counts.specs.declared.run_places.Flush.TheVariants as flush
 use Rattle.rv_counts.specs.declared.run_places.Loss.TheVariants as loss
 use Rattle.rv_counts.proofs.PlacesOfCycle.{ArePlaced}

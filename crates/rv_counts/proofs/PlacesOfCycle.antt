@@ -1,5 +1,6 @@
 -- The places of a cycle add up, and those that were dispatched in it are seen in the reorder buffer.
-use Rattle.std.proofs.Common.{◌≡◌, ◌∙◌, ℕ, ◌+◌, ◌≤◌, ◌==◌, List, [], ◌∷◌, ◌++◌, length, count_by, cond, false, Option, Some, None, ap, sym, subst, arith, length-append, ne_eqb, eq-eqb}
+use Rattle.std.proofs.Common.{◌≡◌, ◌∙◌, ℕ, ◌+◌, ◌≤◌, ◌==◌, List, [], ◌∷◌, ◌++◌, length, count_by, cond, false}
+use Rattle.std.proofs.Common.{Option, Some, None, ap, sym, subst, arith, length-append, ne_eqb, eq-eqb}
 use Rattle.std.specs.FinSet as set
 use Rattle.std.proofs.lemmas.List.Sums.{sum_by-append}
 use Rattle.rv_isa.specs.declared.lines.Lines.{Lines}
@@ -24,9 +25,11 @@ use Rattle.rv_hardware.proofs.Each.{Each-weaker}
 use Rattle.rv_hardware.proofs.Lists.{count-count_by, count-none}
 use Rattle.rv_hardware.proofs.Repeated.{Leaves, kept_by_turns}
 use Rattle.rv_hardware.proofs.Laws.DispatchWidth.{dispatch_within}
-use Rattle.rv_hardware.proofs.Marks.History.{Anything, Passed, committing, dispatching, drained, history_passes, issued_all, reachable_has_history, sent_all}
+use Rattle.rv_hardware.proofs.Marks.History.{Anything, Passed, committing, dispatching, drained}
+use Rattle.rv_hardware.proofs.Marks.History.{history_passes, issued_all, reachable_has_history, sent_all}
 use Rattle.rv_hardware.proofs.Marks.Sound.{SoundEntry}
-use Rattle.rv_hardware.proofs.Turns.Commit.{CommitTurn, commit_turn_is, executes, fence_retires, head_retired_entries, retires, retires_last, serial_faults, traps}
+use Rattle.rv_hardware.proofs.Turns.Commit.{CommitTurn, commit_turn_is, executes, fence_retires}
+use Rattle.rv_hardware.proofs.Turns.Commit.{head_retired_entries, retires, retires_last, serial_faults, traps}
 use Rattle.rv_hardware.proofs.Turns.Dispatch.{DispatchTurn, dispatch_turn_is, dispatches}
 use Rattle.rv_hardware.proofs.Turns.KeptByBroadcast.{IsKeptByBroadcast, broadcast-keeps}
 use Rattle.rv_hardware.proofs.Turns.KeptByDrain.{IsKeptByDrain, drain-keeps}

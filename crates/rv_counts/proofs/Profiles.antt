@@ -1,5 +1,6 @@
 -- The counts of all addresses, as passages leave the hardware and cycles go on.
-use Rattle.std.proofs.Common.{◌≡◌, ℕ, ◌+◌, ◌<◌, ◌==◌, List, [], ◌∷◌, ◌++◌, Option, Some, None, refl, sym, subst, arith, inl, inr}
+use Rattle.std.proofs.Common.{◌≡◌, ℕ, ◌+◌, ◌<◌, ◌==◌, List, [], ◌∷◌, ◌++◌, Option}
+use Rattle.std.proofs.Common.{Some, None, refl, sym, subst, arith, inl, inr}
 use Rattle.std.specs.Option.{option_to_list}
 use Rattle.std.proofs.lemmas.Bool.{cases_Bool, eqb-true, eqb-false}
 use Rattle.rv_passage.specs.declared.passage.{Ending.Ending, Passage.Passage}
@@ -10,7 +11,8 @@ use Rattle.rv_counts.specs.Order.{HasAddress, with_change}
 use Rattle.rv_counts.specs.Profile.{IsProfileOf}
 use Rattle.rv_counts.specs.declared.{counts.WordCounts.WordCounts, loads.LoadCosts.LoadCosts}
 use Rattle.rv_counts.proofs.Changes.{counted-change, each-change, has-change, has-kept, in_order-change}
-use Rattle.rv_counts.proofs.CountsMore.{counts_at-head, counts_at-here, counts_at-none, counts_at-other, counts_at-other_head}
+use Rattle.rv_counts.proofs.CountsMore.{counts_at-head, counts_at-here, counts_at-none}
+use Rattle.rv_counts.proofs.CountsMore.{counts_at-other, counts_at-other_head}
 
 ended-address : (e : Ending) (costs : LoadCosts) (p : Passage) (w : WordCounts) → (with_ended e costs p w).address ≡ w.address
 ended-address (ending.Retired order cycle written next) costs p w = refl

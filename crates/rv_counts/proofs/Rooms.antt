@@ -1,5 +1,6 @@
 -- Room for more counts.
-use Rattle.std.proofs.Common.{◌≡◌, ℕ, zero, suc, ◌+◌, ◌-◌, ◌^◌, ◌≤◌, Bool, true, false, List, [], ◌∷◌, length, take, filter, Option, Some, None, arith, ap, sym, subst}
+use Rattle.std.proofs.Common.{◌≡◌, ℕ, zero, suc, ◌+◌, ◌-◌, ◌^◌, ◌≤◌, Bool, true, false, List, []}
+use Rattle.std.proofs.Common.{◌∷◌, length, take, filter, Option, Some, None, arith, ap, sym, subst}
 use Rattle.std.proofs.lemmas.List.Sums.{count_by-le-length, length-filter}
 use Rattle.rv_cache.specs.WriteBack.{Each}
 use Rattle.rv_passage.specs.Prediction.{is_mispredicted}

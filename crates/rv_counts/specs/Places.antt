@@ -2,13 +2,15 @@
 -- so many places the cycle has. Each is used by an instruction, which retires, traps or is squashed, or is in flight at
 -- the end; or it is lost. This is the top-down account of A. Yasin, "A Top-Down Method for Performance Analysis and
 -- Counters Architecture", ISPASS 2014, at dispatch.
-use Rattle.std.specs.Prelude.{◌≡◌, ℕ, ◌+◌, ◌-◌, ◌*◌, ◌^◌, ◌<◌, ◌≤◌, ◌==◌, Bool, nat_le, nat_lt, if◌then◌else◌, List, [], ◌∷◌, count_by, filter, length, Option, Some, None}
+use Rattle.std.specs.Prelude.{◌≡◌, ℕ, ◌+◌, ◌-◌, ◌*◌, ◌^◌, ◌<◌, ◌≤◌, ◌==◌, Bool, nat_le, nat_lt}
+use Rattle.std.specs.Prelude.{if◌then◌else◌, List, [], ◌∷◌, count_by, filter, length, Option, Some, None}
 use Rattle.std.specs.FinSet as set
 use Rattle.std.specs.List.{list_any, slice_get}
 use Rattle.rv_isa.specs.Arrivals.{lines_at}
 use Rattle.rv_isa.specs.Instruction.{is_serialising, kind_of_word}
 use Rattle.rv_isa.specs.PerKind.{at_kind, with_kind}
-use Rattle.rv_isa.specs.declared.{instructions.Instr.Instr, lines.Arrival.Arrival, operations.Kind.Kind, values.Values.Values}
+use Rattle.rv_isa.specs.declared.{instructions.Instr.Instr, lines.Arrival.Arrival}
+use Rattle.rv_isa.specs.declared.{operations.Kind.Kind, values.Values.Values}
 use Rattle.rv_decode.specs.Decodes.{instruction_of}
 use Rattle.rv_front.specs.FetchBuffer.{FetchBuffer}
 use Rattle.rv_front.specs.declared.fetched.Fetched.{Fetched}
@@ -22,7 +24,8 @@ use Rattle.rv_hardware.specs.Step.{is_retirement, is_trap}
 use Rattle.rv_hardware.specs.declared.{report.Stall.Stall, step.Step.Step}
 use Rattle.rv_hardware.specs.declared.report.Stall.TheVariants as stall
 use Rattle.rv_hardware.specs.declared.step.Step.TheVariants.{Retired, Trap, Interrupt}
-use Rattle.rv_counts.specs.declared.run_places.{CyclePlaces.CyclePlaces, Flush.Flush, Loss.Loss, Lost.Lost, Places.Places, RunPlaces.RunPlaces, Squashed.Squashed}
+use Rattle.rv_counts.specs.declared.run_places.{CyclePlaces.CyclePlaces, Flush.Flush, Loss.Loss, Lost.Lost}
+use Rattle.rv_counts.specs.declared.run_places.{Places.Places, RunPlaces.RunPlaces, Squashed.Squashed}
 use Rattle.rv_counts.specs.declared.run_places.Flush.TheVariants as flush
 use Rattle.rv_counts.specs.declared.run_places.Loss.TheVariants as loss
 

@@ -1,5 +1,6 @@
 ghost use Rattle.std.specs.Prelude.{◌≡◌, ◌+◌, ◌<◌, ◌^◌};
-ghost use Rattle.rv_counts.specs.Counts.{CanCount, added, nothing_at, once_more_at_head, one_more, with_retired, with_waits};
+ghost use Rattle.rv_counts.specs.Counts.{CanCount, added, nothing_at, once_more_at_head};
+ghost use Rattle.rv_counts.specs.Counts.{one_more, with_retired, with_waits};
 
 use crate::loads::LoadCosts;
 use crate::passing::{broadcast_wait, dispatch_wait, issue_wait, retirement_wait};

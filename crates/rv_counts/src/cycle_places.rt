@@ -1,7 +1,8 @@
 ghost use Rattle.std.specs.Prelude.{◌≡◌, ◌≤◌, IfSome, length};
 ghost use Rattle.rv_isa.specs.Instruction.{kind_of_word};
 ghost use Rattle.rv_counts.specs.Found.{count_serialising, count_stationed};
-ghost use Rattle.rv_counts.specs.Places.{dispatched_in, has_no_station, has_serialising, loss_in, loss_of, loss_of_kind, places_by};
+ghost use Rattle.rv_counts.specs.Places.{dispatched_in, has_no_station, has_serialising};
+ghost use Rattle.rv_counts.specs.Places.{loss_in, loss_of, loss_of_kind, places_by};
 ghost use Rattle.rv_counts.specs.declared.run_places.Loss.TheVariants.{Fetch};
 
 use crate::in_flight::{Found, count_dispatched, count_found};

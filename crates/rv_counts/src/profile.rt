@@ -1,4 +1,5 @@
-ghost use Rattle.std.specs.Prelude.{◌≡◌, ◌+◌, ◌≤◌, ◌<◌, [], length, insert, filter, vec_capacity, vec_len, IfErr, IfOk, OnErr};
+ghost use Rattle.std.specs.Prelude.{◌≡◌, ◌+◌, ◌≤◌, ◌<◌, [], length, insert, filter};
+ghost use Rattle.std.specs.Prelude.{vec_capacity, vec_len, IfErr, IfOk, OnErr};
 ghost use Rattle.rv_counts.specs.Counts.{added, nothing_at, once_more_at_head};
 ghost use Rattle.rv_counts.specs.Following.{CanCountMore, HasRoom, with_cycle, with_head, with_passages};
 ghost use Rattle.rv_counts.specs.Load.{costs_of};

@@ -1,5 +1,6 @@
 ghost use Rattle.std.specs.Prelude.{◌≡◌, ◌+◌, ◌<◌, ◌^◌, length};
-ghost use Rattle.rv_counts.specs.Places.{CanPlace, all_places, cycle_total, no_places, place_counts, placed_after, with_cycle, with_lost, with_squashed};
+ghost use Rattle.rv_counts.specs.Places.{CanPlace, all_places, cycle_total, no_places, place_counts};
+ghost use Rattle.rv_counts.specs.Places.{placed_after, with_cycle, with_lost, with_squashed};
 
 use crate::cycle_places::places_by;
 use rv_front::Front;

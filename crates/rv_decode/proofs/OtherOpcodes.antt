@@ -1,5 +1,6 @@
 -- A word with another opcode than theirs is no store, and no serialising instruction.
-use Rattle.std.proofs.Common.{◌≡◌, ◌∙◌, ℕ, ◌^◌, ◌<◌, Bool, true, false, ◌||◌, ◌==◌, not, List, [], ◌∷◌, Some, refl, ap, arith}
+use Rattle.std.proofs.Common.{◌≡◌, ◌∙◌, ℕ, ◌^◌, ◌<◌, Bool, true, false, ◌||◌}
+use Rattle.std.proofs.Common.{◌==◌, not, List, [], ◌∷◌, Some, refl, ap, arith}
 use Rattle.std.specs.List.{list_all}
 use Rattle.std.proofs.lemmas.Bool.{and_parts}
 use Rattle.rv_isa.specs.Instruction.{is_serialising, is_store}

@@ -1,16 +1,24 @@
 -- The instructions and their words, in the order of the manuals' listings (Unprivileged ISA 20191213, 24, table 24.2).
 use Rattle.std.specs.Prelude.{ℕ, ◌+◌, ◌*◌, ◌^◌, List, [], ◌∷◌}
 use Rattle.rv_isa.specs.declared.instructions.CsrSource.TheVariants.{Register, Immediate}
-use Rattle.rv_isa.specs.declared.{instructions.Instr.Instr, arithmetic.AluOp.AluOp, operations.Condition.Condition, operations.CsrOp.CsrOp, operations.ImmediateOp.ImmediateOp, operations.LoadForm.LoadForm, operations.ShiftOp.ShiftOp, operations.Width.Width}
-use Rattle.rv_isa.specs.declared.instructions.Instr.TheVariants.{Lui, Auipc, Jal, Jalr, Branch, Load, Store, OpImmediate, Shift, Op, Fence, FenceI, Csr, Ecall, Ebreak, Mret, Wfi}
-use Rattle.rv_isa.specs.declared.arithmetic.AluOp.TheVariants.{Add, Sub, Sll, Slt, Sltu, Xor, Srl, Sra, Or, And, Mul, Mulh, Mulhsu, Mulhu, Div, Divu, Rem, Remu, Sh1add, Sh2add, Sh3add}
-use Rattle.rv_isa.specs.declared.operations.Condition.TheVariants.{Equal, NotEqual, LessThan, GreaterOrEqual, LessThanUnsigned, GreaterOrEqualUnsigned}
+use Rattle.rv_isa.specs.declared.{instructions.Instr.Instr, arithmetic.AluOp.AluOp, operations.Condition.Condition}
+use Rattle.rv_isa.specs.declared.{operations.CsrOp.CsrOp, operations.ImmediateOp.ImmediateOp}
+use Rattle.rv_isa.specs.declared.{operations.LoadForm.LoadForm, operations.ShiftOp.ShiftOp, operations.Width.Width}
+use Rattle.rv_isa.specs.declared.instructions.Instr.TheVariants.{Lui, Auipc, Jal, Jalr, Branch, Load}
+use Rattle.rv_isa.specs.declared.instructions.Instr.TheVariants.{Store, OpImmediate, Shift, Op, Fence}
+use Rattle.rv_isa.specs.declared.instructions.Instr.TheVariants.{FenceI, Csr, Ecall, Ebreak, Mret, Wfi}
+use Rattle.rv_isa.specs.declared.arithmetic.AluOp.TheVariants.{Add, Sub, Sll, Slt, Sltu, Xor, Srl, Sra}
+use Rattle.rv_isa.specs.declared.arithmetic.AluOp.TheVariants.{Or, And, Mul, Mulh, Mulhsu, Mulhu, Div}
+use Rattle.rv_isa.specs.declared.arithmetic.AluOp.TheVariants.{Divu, Rem, Remu, Sh1add, Sh2add, Sh3add}
+use Rattle.rv_isa.specs.declared.operations.Condition.TheVariants.{Equal, NotEqual, LessThan, GreaterOrEqual}
+use Rattle.rv_isa.specs.declared.operations.Condition.TheVariants.{LessThanUnsigned, GreaterOrEqualUnsigned}
 use Rattle.rv_isa.specs.declared.operations.CsrOp.TheVariants.{Write, Set, Clear}
 use Rattle.rv_isa.specs.declared.operations.ImmediateOp.TheVariants.{Addi, Slti, Sltiu, Xori, Ori, Andi}
 use Rattle.rv_isa.specs.declared.operations.LoadForm.TheVariants as form
 use Rattle.rv_isa.specs.declared.operations.ShiftOp.TheVariants.{Slli, Srli, Srai}
 use Rattle.rv_isa.specs.declared.operations.Width.TheVariants as width
-use Rattle.rv_decode.specs.Operand.{rd, rs1, rs2, i_immediate, s_immediate, b_immediate, u_immediate, j_immediate, shift_amount, csr_address, csr_immediate}
+use Rattle.rv_decode.specs.Operand.{rd, rs1, rs2, i_immediate, s_immediate, b_immediate, u_immediate}
+use Rattle.rv_decode.specs.Operand.{j_immediate, shift_amount, csr_address, csr_immediate}
 
 -- A row: the bits under the mask are fixed, and the others give the operands of the instruction.
 pub record Row : Type 0 where

@@ -1,5 +1,6 @@
 ghost use Rattle.std.specs.Prelude.{◌≡◌, ◌≢◌, ◌<◌, IfSome, None, Some};
-ghost use Rattle.rv_isa.specs.Instruction.{is_branch_or_jump, is_load, is_serialising, is_store, kind_of_word, target_of_word};
+ghost use Rattle.rv_isa.specs.Instruction.{is_branch_or_jump, is_load, is_serialising};
+ghost use Rattle.rv_isa.specs.Instruction.{is_store, kind_of_word, target_of_word};
 ghost use Rattle.rv_decode.specs.Decodes.{instruction_of};
 ghost use Rattle.rv_decode.specs.Known.{both_sources, class_of, known_of};
 

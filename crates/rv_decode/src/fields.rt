@@ -1,7 +1,9 @@
 //! The fields of an instruction word.
 
 ghost use Rattle.std.specs.Prelude.{◌≡◌, ℕ, ◌<◌, ◌≤◌};
-ghost use Rattle.rv_decode.specs.Operand.{bits, opcode, rd, funct3, rs1, rs2, funct7, i_immediate, s_immediate, b_immediate, u_immediate, j_immediate, shift_amount, csr_address, csr_immediate};
+ghost use Rattle.rv_decode.specs.Operand.{bits, opcode, rd, funct3, rs1, rs2, funct7};
+ghost use Rattle.rv_decode.specs.Operand.{i_immediate, s_immediate, b_immediate, u_immediate};
+ghost use Rattle.rv_decode.specs.Operand.{j_immediate, shift_amount, csr_address, csr_immediate};
 
 use rv_isa::{
     BranchOffset, CsrAddress, CsrImmediate, Immediate, JumpOffset, Reg, ShiftAmount, UpperImmediate,

@@ -5,7 +5,8 @@
 ghost use Rattle.std.specs.Prelude.{◌≡◌, ℕ, ◌+◌, ◌<◌, ◌⊎◌, IfSome, IsNone, Some, option_map};
 ghost use Rattle.rv_decode.specs.Decodes.{by_rows};
 ghost use Rattle.rv_decode.specs.Operand.{funct7};
-ghost use Rattle.rv_decode.specs.InstructionTable.{table, branch, load, store, op_immediate, shift, op, csr, csr_with_immediate};
+ghost use Rattle.rv_decode.specs.InstructionTable.{table, branch, load, store, op_immediate};
+ghost use Rattle.rv_decode.specs.InstructionTable.{shift, op, csr, csr_with_immediate};
 
 use crate::opcodes::{BRANCH, LOAD, OP, OP_IMM, STORE, SYSTEM};
 use rv_isa::{AluOp, Condition, CsrOp, ImmediateOp, LoadForm, ShiftOp, Width};

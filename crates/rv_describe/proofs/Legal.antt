@@ -1,5 +1,6 @@
 -- The legal texts: a table has no first error exactly where it is faultless, and then gives values that their keys take.
-use Rattle.std.proofs.Common.{◌≡◌, ℕ, zero, suc, ◌+◌, ℤ, Bool, true, false, List, [], ◌∷◌, Option, Some, None, IsNone, IsOk, Ok, Err, Result, unwrap_or, inl, inr, refl, sym, ◌∙◌, ◌↔◌, arith}
+use Rattle.std.proofs.Common.{◌≡◌, ℕ, zero, suc, ◌+◌, ℤ, Bool, true, false, List, [], ◌∷◌, Option, Some, None}
+use Rattle.std.proofs.Common.{IsNone, IsOk, Ok, Err, Result, unwrap_or, inl, inr, refl, sym, ◌∙◌, ◌↔◌, arith}
 use Rattle.std.specs.Option.{option_and_then, option_flatten, option_map, option_or, option_map_or}
 use Rattle.std.specs.List.{position_from, slice_get}
 use Rattle.std.proofs.lemmas.Bool.{cases_Bool}
@@ -12,7 +13,8 @@ use Rattle.rv_isa.specs.Bounds.{takes}
 use Rattle.rv_isa.specs.Key.{ObeysEachKey, key_place, number_of, order, row_of}
 use Rattle.rv_isa.specs.Standard.{standard_values}
 use Rattle.rv_isa.proofs.LegalKeys.{in_order, number_of-values_with, standard_taken}
-use Rattle.rv_describe.specs.declared.{description_error.DescriptionError.DescriptionError, faults.ValueFault.ValueFault}
+use Rattle.rv_describe.specs.declared.{description_error.DescriptionError.DescriptionError}
+use Rattle.rv_describe.specs.declared.{faults.ValueFault.ValueFault}
 use Rattle.rv_describe.specs.declared.description_error.DescriptionError.TheVariants as error
 use Rattle.rv_describe.specs.declared.faults.ValueFault.TheVariants.{WrongKind, OutOfRange, NotPowerOfTwo}
 use Rattle.rv_describe.specs.Description.{IsFaultless, IsLegalText, described, first_error}

@@ -1,13 +1,16 @@
 -- The entries of a list of arrivals, which are the elements of the array of tables `arrival`, and their faults.
-use Rattle.std.specs.Prelude.{ℕ, ◌+◌, nat_lt, List, [], ◌∷◌, length, take, Option, Some, None, option_map, Result, Ok, Err, if◌then◌else◌}
+use Rattle.std.specs.Prelude.{ℕ, ◌+◌, nat_lt, List, [], ◌∷◌, length, take, Option}
+use Rattle.std.specs.Prelude.{Some, None, option_map, Result, Ok, Err, if◌then◌else◌}
 use Rattle.std.specs.{List.filter_map, List.list_any, Option.option_or, Option.option_map_or}
 use Rattle.toml.specs.Data.{Data}
 use Rattle.rv_isa.specs.declared.lines.Arrival.{Arrival}
 use Rattle.rv_describe.specs.Entry.{arrival_of, has_unknown_field, reading_of}
 use Rattle.rv_describe.specs.Fault.{choice_fault, is_fault}
 use Rattle.rv_describe.specs.Field.{field_with}
-use Rattle.rv_describe.specs.declared.{arrivals_error.ArrivalsError.ArrivalsError, faults.ValueFault.ValueFault, field.Field.Field}
-use Rattle.rv_describe.specs.declared.arrivals_error.ArrivalsError.TheVariants.{UnknownKey, WrongKind, OutOfRange, Unsorted}
+use Rattle.rv_describe.specs.declared.{arrivals_error.ArrivalsError.ArrivalsError}
+use Rattle.rv_describe.specs.declared.{faults.ValueFault.ValueFault, field.Field.Field}
+use Rattle.rv_describe.specs.declared.arrivals_error.ArrivalsError.TheVariants.{UnknownKey, WrongKind}
+use Rattle.rv_describe.specs.declared.arrivals_error.ArrivalsError.TheVariants.{OutOfRange, Unsorted}
 use Rattle.rv_describe.specs.declared.faults.ValueFault.TheVariants as fault
 use Rattle.rv_describe.specs.declared.field.Field.TheVariants.{Cycle}
 

@@ -1,5 +1,6 @@
 -- What an entry of a list of arrivals says.
-use Rattle.std.specs.Prelude.{ℕ, ℤ, pos, negsuc, ◌==◌, nat_le, Bool, true, false, List, [], ◌∷◌, Option, Some, None, option_and_then, if◌then◌else◌, codes}
+use Rattle.std.specs.Prelude.{ℕ, ℤ, pos, negsuc, ◌==◌, nat_le, Bool, true, false, List, []}
+use Rattle.std.specs.Prelude.{◌∷◌, Option, Some, None, option_and_then, if◌then◌else◌, codes}
 use Rattle.std.specs.{Option.option_map_or, Option.option_flatten, Str.bytes_eq}
 use Rattle.toml.specs.Data.{Data, get, as_integer, as_str, as_table}
 use Rattle.rv_isa.specs.declared.lines.{Line.Line, Arrival.Arrival}

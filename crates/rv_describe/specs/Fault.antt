@@ -8,7 +8,8 @@ use Rattle.rv_isa.specs.declared.keys.NumberKey.TheVariants.{RamSize}
 use Rattle.rv_isa.specs.Bounds.{is_in_range, takes}
 use Rattle.rv_isa.specs.Choice.{recovery_named, predictor_named}
 use Rattle.rv_isa.specs.Key.{key_place, row_of, order}
-use Rattle.rv_describe.specs.declared.{description_error.DescriptionError.DescriptionError, faults.ValueFault.ValueFault}
+use Rattle.rv_describe.specs.declared.{description_error.DescriptionError.DescriptionError}
+use Rattle.rv_describe.specs.declared.{faults.ValueFault.ValueFault}
 use Rattle.rv_describe.specs.declared.description_error.DescriptionError.TheVariants as error
 use Rattle.rv_describe.specs.declared.faults.ValueFault.TheVariants.{WrongKind, OutOfRange, NotPowerOfTwo}
 use Rattle.rv_describe.specs.Document.{held}

@@ -1,6 +1,7 @@
 -- What is printed of a fault.
 use Rattle.std.specs.Prelude.{ℕ, List, [], ◌++◌, codes, decimal}
-use Rattle.rv_describe.specs.declared.{arrivals_error.ArrivalsError.ArrivalsError, description_error.DescriptionError.DescriptionError}
+use Rattle.rv_describe.specs.declared.{arrivals_error.ArrivalsError.ArrivalsError}
+use Rattle.rv_describe.specs.declared.{description_error.DescriptionError.DescriptionError}
 use Rattle.rv_describe.specs.declared.arrivals_error.ArrivalsError.TheVariants as listed
 use Rattle.rv_describe.specs.declared.description_error.DescriptionError.TheVariants as described
 

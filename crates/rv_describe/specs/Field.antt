@@ -1,5 +1,6 @@
 -- Which field of an entry of a list of arrivals is at fault.
-use Rattle.std.specs.Prelude.{◌≡◌, pos, true, if◌then◌else◌, IsSome, Option, Some, None, option_map, option_and_then, codes}
+use Rattle.std.specs.Prelude.{◌≡◌, pos, true, if◌then◌else◌, IsSome, Option}
+use Rattle.std.specs.Prelude.{Some, None, option_map, option_and_then, codes}
 use Rattle.std.specs.{Option.option_map_or}
 use Rattle.toml.specs.Data.{Data, as_integer, as_str, get}
 use Rattle.rv_describe.specs.Entry.{cycle_of, level_of, line_named, reading_of}

@@ -1,5 +1,6 @@
 -- The values that a table of TOML gives a machine.
-use Rattle.std.specs.Prelude.{ℕ, ℤ, pos, negsuc, Bool, List, Option, Some, None, unwrap_or, option_and_then, nat_lt, if◌then◌else◌}
+use Rattle.std.specs.Prelude.{ℕ, ℤ, pos, negsuc, Bool, List, Option, Some, None}
+use Rattle.std.specs.Prelude.{unwrap_or, option_and_then, nat_lt, if◌then◌else◌}
 use Rattle.toml.specs.Data.{Members, as_integer, as_bool, as_str}
 use Rattle.rv_isa.specs.PerKind.{at_kind}
 use Rattle.rv_isa.specs.declared.{keys.Key.Key, keys.NumberKey.NumberKey, operations.Kind.Kind, values.Values.Values}

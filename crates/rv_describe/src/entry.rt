@@ -2,7 +2,8 @@ ghost use Rattle.std.specs.Prelude.{◌≡◌, Some, codes, option_and_then, opt
 ghost use Rattle.std.specs.Option.{option_map_or};
 ghost use Rattle.toml.specs.Data.{as_integer, as_str, get};
 ghost use Rattle.toml.specs.View.{view};
-ghost use Rattle.rv_describe.specs.Entry.{arrival_of, arrival_with, cycle_of, has_unknown_field, level_of, line_named, reading_of};
+ghost use Rattle.rv_describe.specs.Entry.{arrival_of, arrival_with, cycle_of};
+ghost use Rattle.rv_describe.specs.Entry.{has_unknown_field, level_of, line_named, reading_of};
 
 use crate::unknown::has_other_name;
 use rv_isa::{Arrival, LAST_CYCLE, Line};

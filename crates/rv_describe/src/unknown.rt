@@ -1,7 +1,8 @@
 ghost use Rattle.std.specs.Prelude.{◌≡◌, not, map, Some, option_copied};
 ghost use Rattle.std.specs.{List.list_any, Str.bytes_eq};
 ghost use Rattle.toml.specs.View.{view, table_view};
-ghost use Rattle.rv_describe.specs.Unknown.{any_member, has_other_name, same_table, is_key, is_table, unknown_within, unknown_at_top, has_unknown};
+ghost use Rattle.rv_describe.specs.Unknown.{any_member, has_other_name, same_table, is_key};
+ghost use Rattle.rv_describe.specs.Unknown.{is_table, unknown_within, unknown_at_top, has_unknown};
 
 use rv_isa::all_keys;
 use toml::{Table, Value};

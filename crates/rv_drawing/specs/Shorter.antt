@@ -1,5 +1,6 @@
 -- A statement in at most 32 bytes.
-use Rattle.std.specs.Prelude.{ℕ, ◌-◌, ◌==◌, ◌&&◌, ◌||◌, Bool, not, if◌then◌else◌, max, nat_le, List, ◌++◌, length, take, drop, codes, Option, Some, None}
+use Rattle.std.specs.Prelude.{ℕ, ◌-◌, ◌==◌, ◌&&◌, ◌||◌, Bool, not, if◌then◌else◌, max, nat_le}
+use Rattle.std.specs.Prelude.{List, ◌++◌, length, take, drop, codes, Option, Some, None}
 use Rattle.std.specs.List.{position, slice_index_or}
 
 -- a byte is one of a range

@@ -1,5 +1,6 @@
 -- The marks of cycles in an SVG: a line and a number at each tenth one, and a line at each interrupt.
-use Rattle.std.specs.Prelude.{ℕ, ◌+◌, ◌-◌, ◌%◌, ◌==◌, ◌&&◌, not, if◌then◌else◌, nat_le, nat_lt, List, [], ◌++◌, codes, decimal}
+use Rattle.std.specs.Prelude.{ℕ, ◌+◌, ◌-◌, ◌%◌, ◌==◌, ◌&&◌, not, if◌then◌else◌}
+use Rattle.std.specs.Prelude.{nat_le, nat_lt, List, [], ◌++◌, codes, decimal}
 use Rattle.rv_drawing.specs.Columns.{columns}
 use Rattle.rv_drawing.specs.Places.{column_x, row_y}
 use Rattle.rv_drawing.specs.declared.window.Window.{Window}

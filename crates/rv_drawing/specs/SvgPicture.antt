@@ -1,6 +1,7 @@
 -- A picture as an SVG: a legend on top, cycle numbers, a row for each instruction with a box for each cell, and a line for each
 -- interrupt.
-use Rattle.std.specs.Prelude.{ℕ, ◌+◌, ◌-◌, if◌then◌else◌, nat_le, Bool, true, false, List, [], ◌∷◌, ◌++◌, codes, decimal, count_by, Option}
+use Rattle.std.specs.Prelude.{ℕ, ◌+◌, ◌-◌, if◌then◌else◌, nat_le, Bool, true, false}
+use Rattle.std.specs.Prelude.{List, [], ◌∷◌, ◌++◌, codes, decimal, count_by, Option}
 use Rattle.std.specs.List.{flat_map}
 use Rattle.rv_hardware.specs.declared.report.Stall.{Stall}
 use Rattle.rv_passage.specs.declared.passage.{Ending.Ending, Passage.Passage}

@@ -1,5 +1,6 @@
 -- A picture for a terminal: a line of cycle numbers, a line for each instruction, one for the interrupts, and a legend.
-use Rattle.std.specs.Prelude.{ℕ, ◌+◌, ◌-◌, ◌%◌, ◌==◌, if◌then◌else◌, nat_lt, Bool, true, false, List, [], ◌++◌, length, codes, decimal, Option, Some, None}
+use Rattle.std.specs.Prelude.{ℕ, ◌+◌, ◌-◌, ◌%◌, ◌==◌, if◌then◌else◌, nat_lt, Bool, true, false}
+use Rattle.std.specs.Prelude.{List, [], ◌++◌, length, codes, decimal, Option, Some, None}
 use Rattle.std.specs.List.{flat_map, list_any}
 use Rattle.rv_passage.specs.Names.{register_name}
 use Rattle.rv_passage.specs.declared.passage.Passage.{Passage}

@@ -1,5 +1,6 @@
 ghost use Rattle.std.specs.Prelude.{◌≡◌, ◌+◌, ◌<◌, ◌^◌};
-ghost use Rattle.rv_drawing.specs.Cell.{is_at, is_dispatch_wait, is_issue_wait, is_past, mark_of, wait_of, phase_of, cell_of, has_cell, letter_by, letter_of, marked_letter_of, name_of, class_of};
+ghost use Rattle.rv_drawing.specs.Cell.{is_at, is_dispatch_wait, is_issue_wait, is_past, mark_of, wait_of, phase_of};
+ghost use Rattle.rv_drawing.specs.Cell.{cell_of, has_cell, letter_by, letter_of, marked_letter_of, name_of, class_of};
 
 use crate::window::Window;
 use rv_passage::{Ending, Passage};

@@ -1,7 +1,8 @@
 ghost use Rattle.std.specs.Prelude.{◌+◌, ◌<◌, ◌^◌, decimal};
 ghost use Rattle.std.specs.List.{flat_map};
 ghost use Rattle.rv_drawing.specs.Places.{column_x, row_y};
-ghost use Rattle.rv_drawing.specs.SvgMarks.{line_down, tenth_mark, tenth_at, number_at, numbers, numbers_again, interrupt_mark, interrupt_in};
+ghost use Rattle.rv_drawing.specs.SvgMarks.{line_down, tenth_mark, tenth_at, number_at, numbers};
+ghost use Rattle.rv_drawing.specs.SvgMarks.{numbers_again, interrupt_mark, interrupt_in};
 ghost use Rattle.rv_text.specs.Said.{Says};
 
 use crate::columns::{Columns, write_columns};

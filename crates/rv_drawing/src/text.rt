@@ -2,7 +2,9 @@ ghost use Rattle.std.specs.Prelude.{◌≡◌, ◌+◌, ◌<◌, ◌^◌, ◌++�
 ghost use Rattle.std.specs.List.{flat_map};
 ghost use Rattle.rv_drawing.specs.ColumnText.{column_text};
 ghost use Rattle.rv_drawing.specs.Columns.{columns};
-ghost use Rattle.rv_drawing.specs.TextPicture.{scale_at, scale_line, statement_field, room_after, written_field, outcome_field, cell_text, cell_at, row_line, shown_line, interrupt_at, mark_line, interrupt_line, mark_legend, text_picture};
+ghost use Rattle.rv_drawing.specs.TextPicture.{scale_at, scale_line, statement_field, room_after, written_field};
+ghost use Rattle.rv_drawing.specs.TextPicture.{outcome_field, cell_text, cell_at, row_line, shown_line};
+ghost use Rattle.rv_drawing.specs.TextPicture.{interrupt_at, mark_line, interrupt_line, mark_legend, text_picture};
 ghost use Rattle.rv_drawing.specs.Label.{statement_of, written_by};
 ghost use Rattle.rv_drawing.specs.Marked.{is_marked};
 ghost use Rattle.rv_drawing.specs.Stopped.{is_stopped};

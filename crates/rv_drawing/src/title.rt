@@ -1,6 +1,7 @@
 ghost use Rattle.std.specs.Prelude.{◌++◌};
 ghost use Rattle.rv_isa.specs.Cause.{code_of};
-ghost use Rattle.rv_drawing.specs.Title.{correction_text, prediction_title, row_end, row_title, title_of_row, trap_title};
+ghost use Rattle.rv_drawing.specs.Title.{correction_text, prediction_title, row_end};
+ghost use Rattle.rv_drawing.specs.Title.{row_title, title_of_row, trap_title};
 ghost use Rattle.rv_drawing.specs.Stopped.{is_stopped};
 ghost use Rattle.rv_text.specs.Line.{word_text};
 ghost use Rattle.rv_text.specs.Said.{Says};

@@ -1,6 +1,7 @@
 ghost use Rattle.std.specs.Prelude.{◌≡◌, ◌++◌, codes};
 ghost use Rattle.rv_isa.specs.Instruction.{kind_of_word};
-ghost use Rattle.rv_drawing.specs.Wait.{awaited, issue_wait, one_wait, operand_wait, producer_text, result_text, second_wait, tip_of, unit_text};
+ghost use Rattle.rv_drawing.specs.Wait.{awaited, issue_wait, one_wait, operand_wait, producer_text};
+ghost use Rattle.rv_drawing.specs.Wait.{result_text, second_wait, tip_of, unit_text};
 ghost use Rattle.rv_text.specs.Said.{Says};
 
 use crate::cell::{Cell, is_past};

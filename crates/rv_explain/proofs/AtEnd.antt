@@ -1,6 +1,8 @@
 -- The passages at the end of a cycle: those that wait in the fetch buffer come last, and so do those in flight after
 -- what left.
-use Rattle.std.proofs.Common.{◌≡◌, ◌∙◌, ℕ, zero, suc, ◌+◌, ◌-◌, ◌≤◌, ◌&&◌, nat_lt, not, Bool, true, false, List, [], ◌∷◌, ◌++◌, length, filter, map, take, drop, None, MatchOption, refl, ap, sym, subst, arith, inl, inr, length-append, length-drop}
+use Rattle.std.proofs.Common.{◌≡◌, ◌∙◌, ℕ, zero, suc, ◌+◌, ◌-◌, ◌≤◌, ◌&&◌, nat_lt, not, Bool, true, false}
+use Rattle.std.proofs.Common.{List, [], ◌∷◌, ◌++◌, length, filter, map, take, drop, None, MatchOption}
+use Rattle.std.proofs.Common.{refl, ap, sym, subst, arith, inl, inr, length-append, length-drop}
 use Rattle.std.specs.List.{list_all, slice_get}
 use Rattle.std.specs.Option.{option_or}
 use Rattle.std.proofs.lemmas.Bool.{cases_Bool}
@@ -20,7 +22,8 @@ use Rattle.rv_passage.proofs.Dropped.{all-open, buffers-open}
 use Rattle.rv_passage.proofs.InFlight.{length-in_buffers}
 use Rattle.rv_passage.proofs.MovesOn.{all-open-moves, as_many-moves, moves_on}
 use Rattle.rv_counts.specs.Passing.{has_left}
-use Rattle.rv_sentences.specs.Stay.{awaited_word, is_staying, lacks_address, oldest_awaited, stay_in, stays_among, with_stay, with_stays}
+use Rattle.rv_sentences.specs.Stay.{awaited_word, is_staying, lacks_address, oldest_awaited}
+use Rattle.rv_sentences.specs.Stay.{stay_in, stays_among, with_stay, with_stays}
 use Rattle.rv_sentences.specs.declared.stays.Stays.{Stays}
 use Rattle.rv_explain.specs.AtEnd.{AreAtEnd}
 

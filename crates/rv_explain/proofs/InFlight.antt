@@ -1,5 +1,6 @@
 -- An instruction in flight adds nothing to what is kept of a run.
-use Rattle.std.proofs.Common.{◌≡◌, ◌∙◌, ℕ, suc, Bool, true, false, cond, is_some, List, [], ◌∷◌, ◌++◌, Option, None, refl, sym, ap, arith, count_by}
+use Rattle.std.proofs.Common.{◌≡◌, ◌∙◌, ℕ, suc, Bool, true, false, cond, is_some, List}
+use Rattle.std.proofs.Common.{[], ◌∷◌, ◌++◌, Option, None, refl, sym, ap, arith, count_by}
 use Rattle.std.proofs.lemmas.Bool.{false≢true}
 use Rattle.std.proofs.lemmas.List.Sums.{sum_by-append}
 use Rattle.std.specs.List.{AllPass}

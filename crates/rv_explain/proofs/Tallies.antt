@@ -1,5 +1,6 @@
 -- What is kept of a run, with one cycle more.
-use Rattle.std.proofs.Common.{◌≡◌, ◌∙◌, ℕ, ◌+◌, ◌*◌, ◌^◌, ◌≤◌, ◌==◌, List, [], ◌∷◌, ◌++◌, length, count_by, filter, Option, Some, None, cond, Bool, true, false, refl, sym, ap, arith, append-nil}
+use Rattle.std.proofs.Common.{◌≡◌, ◌∙◌, ℕ, ◌+◌, ◌*◌, ◌^◌, ◌≤◌, ◌==◌, List, [], ◌∷◌, ◌++◌, length, count_by, filter}
+use Rattle.std.proofs.Common.{Option, Some, None, cond, Bool, true, false, refl, sym, ap, arith, append-nil}
 use Rattle.std.specs.Prelude.{is_some}
 use Rattle.std.specs.List.{cons_option, filter_map}
 use Rattle.std.specs.Option.{option_to_list}
@@ -35,7 +36,8 @@ use Rattle.rv_sentences.specs.Stay.{all_stays, awaited_of, no_stays, stays_of, w
 use Rattle.rv_sentences.specs.WordCount.{count_at}
 use Rattle.rv_sentences.specs.WordNotes.{notes_of}
 use Rattle.rv_sentences.specs.Work.{is_mispredicted_branch, is_retired_branch, word_in}
-use Rattle.rv_sentences.specs.declared.{dispatches.Dispatches.Dispatches, exception.Exception.Exception, interruption.Interruption.Interruption}
+use Rattle.rv_sentences.specs.declared.{dispatches.Dispatches.Dispatches, exception.Exception.Exception}
+use Rattle.rv_sentences.specs.declared.{interruption.Interruption.Interruption}
 use Rattle.rv_sentences.specs.declared.work.Class.{Class}
 use Rattle.rv_sentences.specs.declared.work.Class.TheVariants.{Branch, Mispredicted}
 use Rattle.rv_sentences.proofs.DrainCounts.{drains_by-append, drains_of-le, drains_of-push}

@@ -1,12 +1,14 @@
 -- A program that crashed, or ran past its last line.
-use Rattle.std.specs.Prelude.{ℕ, ◌-◌, ◌/◌, ◌==◌, ◌&&◌, Bool, is_none, is_some, if◌then◌else◌, List, [], ◌++◌, codes, Option, Some, None}
+use Rattle.std.specs.Prelude.{ℕ, ◌-◌, ◌/◌, ◌==◌, ◌&&◌, Bool, is_none, is_some}
+use Rattle.std.specs.Prelude.{if◌then◌else◌, List, [], ◌++◌, codes, Option, Some, None}
 use Rattle.rv_arch.specs.declared.outcome.Stop.{Stop}
 use Rattle.rv_arch.specs.declared.outcome.Stop.TheVariants.{Limit, Breakpoint, Stale, Exhausted}
 use Rattle.rv_source.specs.Listing.{Listed, line_at}
 use Rattle.rv_sentences.specs.Exception.{first_text}
 use Rattle.rv_sentences.specs.Interrupt.{interrupts_text}
 use Rattle.rv_source.specs.PlaceText.{place_text}
-use Rattle.rv_sentences.specs.declared.{exception.Exception.Exception, interrupts.Interrupts.Interrupts, series.Series.Series}
+use Rattle.rv_sentences.specs.declared.{exception.Exception.Exception}
+use Rattle.rv_sentences.specs.declared.{interrupts.Interrupts.Interrupts, series.Series.Series}
 use Rattle.rv_explain.specs.declared.figures.Figures.{Figures}
 use Rattle.rv_explain.specs.declared.figures.Figures.TheVariants.{Always, UnlessCrashed}
 

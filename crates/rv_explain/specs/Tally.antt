@@ -19,7 +19,8 @@ use Rattle.rv_counts.specs.Passing.{has_left}
 use Rattle.rv_sentences.specs.Access.{both}
 use Rattle.rv_sentences.specs.Dispatch.{dispatched_after, none_dispatched}
 use Rattle.rv_sentences.specs.Drain.{drains_by, drains_of}
-use Rattle.rv_sentences.specs.Drained.{CanCountStore, drained_of, oldest_drained, still_waiting, store_counts, waiting_of, with_drained, with_waiting}
+use Rattle.rv_sentences.specs.Drained.{CanCountStore, drained_of, oldest_drained, still_waiting}
+use Rattle.rv_sentences.specs.Drained.{store_counts, waiting_of, with_drained, with_waiting}
 use Rattle.rv_sentences.specs.Exception.{exception_in, exceptions_of}
 use Rattle.rv_sentences.specs.Head.{account_of, accounts_of, flusher_in, flusher_of, is_idle, itself}
 use Rattle.rv_hardware.specs.History.{Moment, reports_of}

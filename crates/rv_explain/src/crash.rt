@@ -1,5 +1,6 @@
 ghost use Rattle.std.specs.Prelude.{◌≡◌};
-ghost use Rattle.rv_explain.specs.Crash.{crash_of, crash_text, first_passed_text, is_past_code, lone_crash, passed_text, unhandled};
+ghost use Rattle.rv_explain.specs.Crash.{crash_of, crash_text, first_passed_text};
+ghost use Rattle.rv_explain.specs.Crash.{is_past_code, lone_crash, passed_text, unhandled};
 ghost use Rattle.rv_text.specs.Said.{Says};
 
 use crate::figures::Figures;

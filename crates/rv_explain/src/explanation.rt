@@ -1,5 +1,6 @@
 ghost use Rattle.std.specs.Prelude.{◌≡◌, ◌≤◌, ◌<◌, ◌^◌, Err, sum, IfOk, option_copied};
-ghost use Rattle.rv_explain.specs.Explanation.{CanBeWritten, IsExplanation, cost_text, cycle_text, explanation, lead_text, path_text, run_text, untaken_lines, whole_text};
+ghost use Rattle.rv_explain.specs.Explanation.{CanBeWritten, IsExplanation, cost_text, cycle_text, explanation};
+ghost use Rattle.rv_explain.specs.Explanation.{lead_text, path_text, run_text, untaken_lines, whole_text};
 ghost use Rattle.rv_hardware.specs.Guided.{guided};
 ghost use Rattle.rv_explain.specs.Tally.{IsOfNoCycle};
 ghost use Rattle.rv_view.specs.Following.{FollowsFrom};

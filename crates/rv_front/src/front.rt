@@ -1,4 +1,5 @@
-ghost use Rattle.std.specs.Prelude.{◌≡◌, ◌<◌, ◌≤◌, [], ◌∷◌, ◌++◌, length, drop, slice_get, Some, option_copied, IfOk, false};
+ghost use Rattle.std.specs.Prelude.{◌≡◌, ◌<◌, ◌≤◌, [], ◌∷◌, ◌++◌, length, drop};
+ghost use Rattle.std.specs.Prelude.{slice_get, Some, option_copied, IfOk, false};
 ghost use Rattle.circular_buffer.specs.Buffer.{buffer};
 ghost use Rattle.rv_front.specs.FetchBuffer.{FetchesInto, IsChain, IsFetchedAt, head_pc};
 ghost use Rattle.rv_front.specs.Guide.{answers_of};

@@ -1,5 +1,6 @@
 -- The broadcast phase: the oldest results go on the common data bus.
-use Rattle.std.specs.Prelude.{ℕ, ◌+◌, ◌==◌, ◌&&◌, not, nat_le, Bool, true, false, if◌then◌else◌, List, length, Option, Some, None, is_none}
+use Rattle.std.specs.Prelude.{ℕ, ◌+◌, ◌==◌, ◌&&◌, not, nat_le, Bool, true, false}
+use Rattle.std.specs.Prelude.{if◌then◌else◌, List, length, Option, Some, None, is_none}
 use Rattle.rv_isa.specs.Instruction.{is_branch_or_jump}
 use Rattle.rv_isa.specs.declared.{broadcast.Message.Message, values.Recovery.Recovery}
 use Rattle.rv_isa.specs.declared.values.Recovery.TheVariants.{Commit, Early}

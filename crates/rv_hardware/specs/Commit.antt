@@ -1,9 +1,11 @@
 -- The commit phase: instructions retire in program order, and traps and interrupts are taken, each before anything younger.
-use Rattle.std.specs.Prelude.{ℕ, ◌+◌, ◌*◌, ◌==◌, ◌&&◌, nat_le, Bool, true, false, if◌then◌else◌, List, [], ◌∷◌, ◌++◌, map, Option, Some, None}
+use Rattle.std.specs.Prelude.{ℕ, ◌+◌, ◌*◌, ◌==◌, ◌&&◌, nat_le, Bool, true, false}
+use Rattle.std.specs.Prelude.{if◌then◌else◌, List, [], ◌∷◌, ◌++◌, map, Option, Some, None}
 use Rattle.std.specs.{Option.unwrap_or, Ordering.nat_cmp}
 use Rattle.std.specs.FinSet as set
 use Rattle.rv_isa.specs.Cause.{code_of}
-use Rattle.rv_isa.specs.declared.{broadcast.Message.Message, causes.Cause.Cause, causes.Fault.Fault, instructions.Instr.Instr}
+use Rattle.rv_isa.specs.declared.{broadcast.Message.Message, causes.Cause.Cause}
+use Rattle.rv_isa.specs.declared.{causes.Fault.Fault, instructions.Instr.Instr}
 use Rattle.rv_isa.specs.declared.instructions.Instr.TheVariants.{FenceI, Csr, Mret}
 use Rattle.rv_arch.specs.Due.{due}
 use Rattle.rv_arch.specs.Effect.{Effect, Retires, Faults, effect}

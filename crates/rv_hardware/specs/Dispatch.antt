@@ -1,5 +1,6 @@
 -- The dispatch phase: fetched instructions enter the reorder buffer in order.
-use Rattle.std.specs.Prelude.{ℕ, ◌+◌, ◌==◌, ◌&&◌, nat_le, Bool, true, false, if◌then◌else◌, List, [], ◌∷◌, length, filter, Option, Some, None}
+use Rattle.std.specs.Prelude.{ℕ, ◌+◌, ◌==◌, ◌&&◌, nat_le, Bool, true, false, if◌then◌else◌}
+use Rattle.std.specs.Prelude.{List, [], ◌∷◌, length, filter, Option, Some, None}
 use Rattle.std.specs.List.{list_any}
 use Rattle.rv_isa.specs.Instruction.{is_serialising, is_store, is_of_kind, kind_of_word}
 use Rattle.rv_isa.specs.PerKind.{at_kind}

@@ -1,5 +1,6 @@
 -- The issue phase: for each kind of unit, the oldest instructions that are ready leave for the units that are free.
-use Rattle.std.specs.Prelude.{ℕ, ◌+◌, ◌&&◌, ◌||◌, not, nat_le, Bool, true, false, if◌then◌else◌, List, [], ◌∷◌, ◌++◌, length, take, Option, Some, None, is_some}
+use Rattle.std.specs.Prelude.{ℕ, ◌+◌, ◌&&◌, ◌||◌, not, nat_le, Bool, true, false, if◌then◌else◌}
+use Rattle.std.specs.Prelude.{List, [], ◌∷◌, ◌++◌, length, take, Option, Some, None, is_some}
 use Rattle.std.specs.List.{list_all}
 use Rattle.rv_isa.specs.Instruction.{is_load, is_of_kind, kind_of_word, sources_of_word}
 use Rattle.rv_isa.specs.Operation.{bytes_of, width_of}

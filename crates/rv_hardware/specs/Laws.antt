@@ -1,9 +1,11 @@
 -- The laws that the reported steps of a run obey, by pairs and counts alone.
-use Rattle.std.specs.Prelude.{◌≡◌, ℕ, ◌+◌, ◌-◌, ◌<◌, ◌≤◌, ◌==◌, ◌⊎◌, max, Bool, true, false, List, [], ◌∷◌, map, Some, is_some, IfSome, MatchOption, All, AllPairs, count_by, sum_by}
+use Rattle.std.specs.Prelude.{◌≡◌, ℕ, ◌+◌, ◌-◌, ◌<◌, ◌≤◌, ◌==◌, ◌⊎◌, max, Bool, true, false, List, [], ◌∷◌}
+use Rattle.std.specs.Prelude.{map, Some, is_some, IfSome, MatchOption, All, AllPairs, count_by, sum_by}
 use Rattle.std.specs.List.{list_any, range_with_len}
 use Rattle.rv_isa.specs.Arrivals.{lines_at}
 use Rattle.rv_isa.specs.PerKind.{at_kind}
-use Rattle.rv_isa.specs.declared.{lines.Arrival.Arrival, operations.Kind.Kind, values.CacheValues.CacheValues, values.Values.Values}
+use Rattle.rv_isa.specs.declared.{lines.Arrival.Arrival, operations.Kind.Kind}
+use Rattle.rv_isa.specs.declared.{values.CacheValues.CacheValues, values.Values.Values}
 use Rattle.rv_isa.specs.declared.values.Recovery.TheVariants.{Early}
 use Rattle.rv_arch.specs.Due.{due}
 use Rattle.rv_arch.specs.Run.{Run}
@@ -12,9 +14,14 @@ use Rattle.rv_arch.specs.Trap.{interrupt_cause}
 use Rattle.rv_memory.specs.Memory.{Layout}
 use Rattle.rv_hardware.specs.Headline.{reference_step}
 use Rattle.rv_hardware.specs.Report.{all_stalls, count_of}
-use Rattle.rv_hardware.specs.Stamps.{rows_of, steps_below, steps_in, EachAfter, EachNext, kind_of_row, is_store_row, is_load_row, is_fence_i_row, known_in, needs_no_unit, is_row_of_kind, sources_of_row, producer_among, flushes, is_fetched_in, is_dispatched_in, is_issued_in, is_broadcast_in, is_buffered_in, is_in_flight_in, is_stationed_in, is_executing_in, is_queued_in, uses_port}
+use Rattle.rv_hardware.specs.Stamps.{rows_of, steps_below, steps_in, EachAfter, EachNext, kind_of_row}
+use Rattle.rv_hardware.specs.Stamps.{is_store_row, is_load_row, is_fence_i_row, known_in, needs_no_unit}
+use Rattle.rv_hardware.specs.Stamps.{is_row_of_kind, sources_of_row, producer_among, flushes, is_fetched_in}
+use Rattle.rv_hardware.specs.Stamps.{is_dispatched_in, is_issued_in, is_broadcast_in, is_buffered_in}
+use Rattle.rv_hardware.specs.Stamps.{is_in_flight_in, is_stationed_in, is_executing_in, is_queued_in, uses_port}
 use Rattle.rv_hardware.specs.Step.{stamp_of, is_interrupt}
-use Rattle.rv_hardware.specs.declared.{report.StallCounts.StallCounts, step.Execution.Execution, step.Row.Row, step.Step.Step}
+use Rattle.rv_hardware.specs.declared.{report.StallCounts.StallCounts}
+use Rattle.rv_hardware.specs.declared.{step.Execution.Execution, step.Row.Row, step.Step.Step}
 use Rattle.rv_hardware.specs.declared.step.Step.TheVariants.{Retired, Trap, Interrupt}
 
 -- issued after the dispatch, broadcast after the cost at the earliest, and before the retirement

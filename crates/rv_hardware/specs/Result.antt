@@ -3,7 +3,8 @@ use Rattle.std.specs.Prelude.{ℕ, Option, Some, None}
 use Rattle.rv_isa.specs.Bytes.{bytes_of_number}
 use Rattle.rv_isa.specs.Operation.{bytes_of}
 use Rattle.rv_isa.specs.Word.{sum, modulo_word}
-use Rattle.rv_isa.specs.declared.{broadcast.Message.Message, causes.Cause.Cause, broadcast.StoreAccess.StoreAccess, instructions.Instr.Instr, lines.Lines.Lines}
+use Rattle.rv_isa.specs.declared.{broadcast.Message.Message, causes.Cause.Cause}
+use Rattle.rv_isa.specs.declared.{broadcast.StoreAccess.StoreAccess, instructions.Instr.Instr, lines.Lines.Lines}
 use Rattle.rv_isa.specs.declared.causes.Cause.TheVariants.{InstructionAccessFault, IllegalInstruction}
 use Rattle.rv_isa.specs.declared.instructions.Instr.TheVariants.{Store}
 use Rattle.rv_arch.specs.Effect.{Effect, Retires, Faults, effect}

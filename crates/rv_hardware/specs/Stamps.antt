@@ -1,10 +1,13 @@
 -- What the laws say of reported steps, by their stamps alone.
-use Rattle.std.specs.Prelude.{◌≡◌, ℕ, ◌+◌, ◌==◌, ◌&&◌, not, nat_le, nat_lt, Bool, true, false, if◌then◌else◌, List, [], ◌∷◌, ◌++◌, filter, Option, Some, None}
+use Rattle.std.specs.Prelude.{◌≡◌, ℕ, ◌+◌, ◌==◌, ◌&&◌, not, nat_le, nat_lt, Bool, true, false}
+use Rattle.std.specs.Prelude.{if◌then◌else◌, List, [], ◌∷◌, ◌++◌, filter, Option, Some, None}
 use Rattle.std.specs.Option.{option_map, unwrap_or}
 use Rattle.rv_decode.specs.Decodes.{instruction_of}
-use Rattle.rv_isa.specs.Instruction.{is_serialising, is_fence_i, is_load, is_store, kind_of_word, is_of_kind, sources_of_word, target_of_word, is_target}
+use Rattle.rv_isa.specs.Instruction.{is_serialising, is_fence_i, is_load, is_store, kind_of_word}
+use Rattle.rv_isa.specs.Instruction.{is_of_kind, sources_of_word, target_of_word, is_target}
 use Rattle.rv_isa.specs.declared.{causes.Cause.Cause, instructions.Instr.Instr, operations.Kind.Kind}
-use Rattle.rv_isa.specs.declared.causes.Cause.TheVariants.{InstructionAccessFault, IllegalInstruction, Breakpoint, EnvironmentCall}
+use Rattle.rv_isa.specs.declared.causes.Cause.TheVariants.{InstructionAccessFault, IllegalInstruction}
+use Rattle.rv_isa.specs.declared.causes.Cause.TheVariants.{Breakpoint, EnvironmentCall}
 use Rattle.rv_hardware.specs.Step.{stamp_of}
 use Rattle.rv_hardware.specs.declared.step.{Execution.Execution, Row.Row, Step.Step}
 use Rattle.rv_hardware.specs.declared.step.Step.TheVariants.{Retired, Trap, Interrupt}

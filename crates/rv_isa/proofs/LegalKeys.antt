@@ -10,7 +10,11 @@ use Rattle.rv_isa.specs.declared.keys.Key.{Key}
 use Rattle.rv_isa.specs.declared.keys.Key.TheVariants.{Number}
 use Rattle.rv_isa.specs.declared.keys.KindKey.TheVariants.{Stations, Units, Latency}
 use Rattle.rv_isa.specs.declared.keys.NumberKey.{NumberKey}
-use Rattle.rv_isa.specs.declared.keys.NumberKey.TheVariants.{RamBase, RamSize, RomBytes, FetchWidth, DispatchWidth, CommitWidth, BusWidth, FetchBuffer, Rob, StoreQueue, Forward, OfKind, CacheSets, CacheWays, CacheLine, CacheHit, CacheMiss, CacheWriteBack, PredictorEntries, ReportDumpAddress, ReportDumpWords}
+use Rattle.rv_isa.specs.declared.keys.NumberKey.TheVariants.{RamBase, RamSize, RomBytes, FetchWidth, DispatchWidth}
+use Rattle.rv_isa.specs.declared.keys.NumberKey.TheVariants.{CommitWidth, BusWidth, FetchBuffer, Rob, StoreQueue}
+use Rattle.rv_isa.specs.declared.keys.NumberKey.TheVariants.{Forward, OfKind, CacheSets, CacheWays, CacheLine}
+use Rattle.rv_isa.specs.declared.keys.NumberKey.TheVariants.{CacheHit, CacheMiss, CacheWriteBack, PredictorEntries}
+use Rattle.rv_isa.specs.declared.keys.NumberKey.TheVariants.{ReportDumpAddress, ReportDumpWords}
 use Rattle.rv_isa.specs.declared.operations.Kind.{Kind}
 use Rattle.rv_isa.specs.declared.values.PredictorKind.{PredictorKind as Prediction}
 use Rattle.rv_isa.specs.declared.values.Recovery.{Recovery as Mending}

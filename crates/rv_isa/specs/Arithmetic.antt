@@ -1,8 +1,11 @@
-use Rattle.std.specs.Prelude.{ℕ, ◌+◌, ◌*◌, ◌/◌, ◌%◌, ◌^◌, ◌-◌, pos, ◌-ℤ◌, ◌*ℤ◌, ◌==◌, cond, nat_lt, int_lt, int_div, int_rem, bit_and, bit_or, bit_xor}
+use Rattle.std.specs.Prelude.{ℕ, ◌+◌, ◌*◌, ◌/◌, ◌%◌, ◌^◌, ◌-◌, pos, ◌-ℤ◌, ◌*ℤ◌, ◌==◌, cond}
+use Rattle.std.specs.Prelude.{nat_lt, int_lt, int_div, int_rem, bit_and, bit_or, bit_xor}
 use Rattle.std.specs.Int.{from_bool, int_div_euclid}
 use Rattle.rv_isa.specs.Word.{signed, modulo_word, upper_word}
 use Rattle.rv_isa.specs.declared.{arithmetic.AluOp.AluOp, operations.Kind.Kind}
-use Rattle.rv_isa.specs.declared.arithmetic.AluOp.TheVariants.{Add, Sub, Sll, Slt, Sltu, Xor, Srl, Sra, Or, And, Mul, Mulh, Mulhsu, Mulhu, Div, Divu, Rem, Remu, Sh1add, Sh2add, Sh3add}
+use Rattle.rv_isa.specs.declared.arithmetic.AluOp.TheVariants.{Add, Sub, Sll, Slt, Sltu, Xor, Srl, Sra}
+use Rattle.rv_isa.specs.declared.arithmetic.AluOp.TheVariants.{Or, And, Mul, Mulh, Mulhsu, Mulhu, Div}
+use Rattle.rv_isa.specs.declared.arithmetic.AluOp.TheVariants.{Divu, Rem, Remu, Sh1add, Sh2add, Sh3add}
 use Rattle.rv_isa.specs.declared.operations.Kind.TheVariants as kind
 
 -- the word of all ones

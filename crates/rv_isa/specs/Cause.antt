@@ -1,6 +1,9 @@
 use Rattle.std.specs.Prelude.{ℕ}
 use Rattle.rv_isa.specs.declared.causes.Cause.{Cause}
-use Rattle.rv_isa.specs.declared.causes.Cause.TheVariants.{InstructionAddressMisaligned, InstructionAccessFault, IllegalInstruction, Breakpoint, LoadAddressMisaligned, LoadAccessFault, StoreAddressMisaligned, StoreAccessFault, EnvironmentCall}
+use Rattle.rv_isa.specs.declared.causes.Cause.TheVariants.{InstructionAddressMisaligned, InstructionAccessFault}
+use Rattle.rv_isa.specs.declared.causes.Cause.TheVariants.{IllegalInstruction, Breakpoint, LoadAddressMisaligned}
+use Rattle.rv_isa.specs.declared.causes.Cause.TheVariants.{LoadAccessFault, StoreAddressMisaligned}
+use Rattle.rv_isa.specs.declared.causes.Cause.TheVariants.{StoreAccessFault, EnvironmentCall}
 
 -- Privileged Architecture 20211203, 3.1.15, table 3.6: the exception codes of machine mode
 abbrev pub code_of : Cause → ℕ

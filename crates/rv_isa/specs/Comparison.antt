@@ -1,7 +1,8 @@
 use Rattle.std.specs.Prelude.{ℕ, Bool, not, ◌==◌, nat_lt, int_lt}
 use Rattle.rv_isa.specs.Word.{signed}
 use Rattle.rv_isa.specs.declared.operations.Condition.{Condition}
-use Rattle.rv_isa.specs.declared.operations.Condition.TheVariants.{Equal, NotEqual, LessThan, GreaterOrEqual, LessThanUnsigned, GreaterOrEqualUnsigned}
+use Rattle.rv_isa.specs.declared.operations.Condition.TheVariants.{Equal, NotEqual, LessThan, GreaterOrEqual}
+use Rattle.rv_isa.specs.declared.operations.Condition.TheVariants.{LessThanUnsigned, GreaterOrEqualUnsigned}
 
 -- Unprivileged ISA 20191213, 2.5: the condition of beq, bne, blt, bge, bltu and bgeu
 abbrev pub holds : Condition → ℕ → ℕ → Bool

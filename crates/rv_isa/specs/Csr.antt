@@ -2,7 +2,8 @@
 use Rattle.std.specs.Prelude.{ℕ, ◌==◌, List, [], ◌∷◌, Option, codes}
 use Rattle.std.specs.{List.find, Str.bytes_eq}
 use Rattle.rv_isa.specs.declared.csrs.Csr.{Csr}
-use Rattle.rv_isa.specs.declared.csrs.Csr.TheVariants.{Mstatus, Misa, Mie, Mtvec, Mstatush, Mscratch, Mepc, Mcause, Mtval, Mip, Mvendorid, Marchid, Mimpid, Mhartid, Mconfigptr}
+use Rattle.rv_isa.specs.declared.csrs.Csr.TheVariants.{Mstatus, Misa, Mie, Mtvec, Mstatush, Mscratch, Mepc, Mcause}
+use Rattle.rv_isa.specs.declared.csrs.Csr.TheVariants.{Mtval, Mip, Mvendorid, Marchid, Mimpid, Mhartid, Mconfigptr}
 
 -- the address and the name of each
 abbrev pub row_of : Csr → ℕ × List ℕ

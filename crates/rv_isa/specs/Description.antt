@@ -1,6 +1,8 @@
 use Rattle.std.specs.Prelude.{◌≡◌, ℕ, ◌+◌, ◌*◌, ◌%◌, ◌≤◌, max, IsTrue}
 use Rattle.std.specs.Int.{is_power_of_two}
-use Rattle.rv_isa.specs.declared.{operations.Kind.Kind, values.Values.Values, values.KindValues.KindValues, values.CacheValues.CacheValues, values.PredictorValues.PredictorValues, values.ReportValues.ReportValues}
+use Rattle.rv_isa.specs.declared.{operations.Kind.Kind, values.Values.Values, values.KindValues.KindValues}
+use Rattle.rv_isa.specs.declared.{values.CacheValues.CacheValues, values.PredictorValues.PredictorValues}
+use Rattle.rv_isa.specs.declared.{values.ReportValues.ReportValues}
 use Rattle.rv_isa.specs.PerKind.{at_kind}
 
 -- n lies from low to high

@@ -1,11 +1,20 @@
 -- The keys of a machine description: where each stands, what it takes, and their order.
-use Rattle.std.specs.Prelude.{ℕ, Bool, true, ◌≡◌, ◌-◌, ◌==◌, if◌then◌else◌, List, [], ◌∷◌, ◌++◌, Option, Some, None, codes}
+use Rattle.std.specs.Prelude.{ℕ, Bool, true, ◌≡◌, ◌-◌, ◌==◌, if◌then◌else◌}
+use Rattle.std.specs.Prelude.{List, [], ◌∷◌, ◌++◌, Option, Some, None, codes}
 use Rattle.std.specs.{Option.option_map, Option.option_map_or, List.slice_get}
-use Rattle.rv_isa.specs.declared.{bounds.Bounds.Bounds, keys.Key.Key, keys.KindKey.KindKey, keys.NumberKey.NumberKey, keys.NumberRow.NumberRow as RowValue, keys.Place.Place as PlaceValue, operations.Kind.Kind, values.KindValues.KindValues, values.PredictorKind.PredictorKind as Prediction, values.Recovery.Recovery as Mending, values.Values.Values}
+use Rattle.rv_isa.specs.declared.{bounds.Bounds.Bounds, keys.Key.Key, keys.KindKey.KindKey}
+use Rattle.rv_isa.specs.declared.{keys.NumberKey.NumberKey, keys.NumberRow.NumberRow as RowValue}
+use Rattle.rv_isa.specs.declared.{keys.Place.Place as PlaceValue, operations.Kind.Kind}
+use Rattle.rv_isa.specs.declared.{values.KindValues.KindValues, values.PredictorKind.PredictorKind as Prediction}
+use Rattle.rv_isa.specs.declared.{values.Recovery.Recovery as Mending, values.Values.Values}
 use Rattle.rv_isa.specs.declared.bounds.Bounds.TheVariants.{Whole, Pages, Words, Powers, Front}
 use Rattle.rv_isa.specs.declared.keys.Key.TheVariants.{Number, Recovery, Pipelined, PredictorKind}
 use Rattle.rv_isa.specs.declared.keys.KindKey.TheVariants.{Stations, Units, Latency}
-use Rattle.rv_isa.specs.declared.keys.NumberKey.TheVariants.{RamBase, RamSize, RomBytes, FetchWidth, DispatchWidth, CommitWidth, BusWidth, FetchBuffer, Rob, StoreQueue, Forward, OfKind, CacheSets, CacheWays, CacheLine, CacheHit, CacheMiss, CacheWriteBack, PredictorEntries, ReportDumpAddress, ReportDumpWords}
+use Rattle.rv_isa.specs.declared.keys.NumberKey.TheVariants.{RamBase, RamSize, RomBytes, FetchWidth, DispatchWidth}
+use Rattle.rv_isa.specs.declared.keys.NumberKey.TheVariants.{CommitWidth, BusWidth, FetchBuffer, Rob, StoreQueue}
+use Rattle.rv_isa.specs.declared.keys.NumberKey.TheVariants.{Forward, OfKind, CacheSets, CacheWays, CacheLine}
+use Rattle.rv_isa.specs.declared.keys.NumberKey.TheVariants.{CacheHit, CacheMiss, CacheWriteBack, PredictorEntries}
+use Rattle.rv_isa.specs.declared.keys.NumberKey.TheVariants.{ReportDumpAddress, ReportDumpWords}
 use Rattle.rv_isa.specs.declared.operations.Kind.TheVariants.{Alu, Mul, Div, Mem}
 use Rattle.rv_isa.specs.Bounds.{takes}
 use Rattle.rv_isa.specs.PerKind.{by_kind, at_kind}

@@ -1,7 +1,8 @@
 -- The levels that are kept after each block of arrivals: no public clause names them.
 use Rattle.std.specs.Prelude.{◌≡◌, ℕ, ◌*◌, ◌<◌, cond, List, fold, take, slice_index_or}
 use Rattle.rv_isa.specs.declared.lines.Line.TheVariants.{Software, Timer, External}
-use Rattle.rv_isa.specs.declared.{lines.Lines.Lines, lines.Arrival.Arrival, line_levels.TheConstants.BLOCK, line_levels.TheConstants.BLOCKS}
+use Rattle.rv_isa.specs.declared.{lines.Lines.Lines, lines.Arrival.Arrival}
+use Rattle.rv_isa.specs.declared.{line_levels.TheConstants.BLOCK, line_levels.TheConstants.BLOCKS}
 use Rattle.rv_isa.specs.Arrivals.{is_line, no_lines}
 
 -- an arrival gives its line its level

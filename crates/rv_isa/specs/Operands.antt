@@ -3,7 +3,9 @@ use Rattle.rv_isa.specs.Arithmetic.{operation_kind_of}
 use Rattle.rv_isa.specs.declared.{operations.Kind.Kind, instructions.Instr.Instr}
 use Rattle.rv_isa.specs.declared.operations.Kind.TheVariants as kind
 use Rattle.rv_isa.specs.declared.instructions.CsrSource.TheVariants as source
-use Rattle.rv_isa.specs.declared.instructions.Instr.TheVariants.{Lui, Auipc, Jal, Jalr, Branch, Load, Store, OpImmediate, Shift, Op, Fence, FenceI, Csr, Ecall, Ebreak, Mret, Wfi}
+use Rattle.rv_isa.specs.declared.instructions.Instr.TheVariants.{Lui, Auipc, Jal, Jalr, Branch, Load}
+use Rattle.rv_isa.specs.declared.instructions.Instr.TheVariants.{Store, OpImmediate, Shift, Op, Fence}
+use Rattle.rv_isa.specs.declared.instructions.Instr.TheVariants.{FenceI, Csr, Ecall, Ebreak, Mret, Wfi}
 
 -- Unprivileged ISA 20191213, 2.2: the fields rs1 and rs2 that the instruction's format has
 abbrev pub sources_of : Instr → List (Option ℕ)

@@ -1,5 +1,6 @@
 use Rattle.std.specs.Prelude.{ℕ, Bool, true, false}
-use Rattle.rv_isa.specs.declared.{arithmetic.AluOp.AluOp, operations.ImmediateOp.ImmediateOp, operations.ShiftOp.ShiftOp, operations.Width.Width, operations.LoadForm.LoadForm}
+use Rattle.rv_isa.specs.declared.{arithmetic.AluOp.AluOp, operations.ImmediateOp.ImmediateOp}
+use Rattle.rv_isa.specs.declared.{operations.ShiftOp.ShiftOp, operations.Width.Width, operations.LoadForm.LoadForm}
 use Rattle.rv_isa.specs.declared.arithmetic.AluOp.TheVariants as alu
 use Rattle.rv_isa.specs.declared.operations.ImmediateOp.TheVariants.{Addi, Slti, Sltiu, Xori, Ori, Andi}
 use Rattle.rv_isa.specs.declared.operations.ShiftOp.TheVariants.{Slli, Srli, Srai}

@@ -1,14 +1,18 @@
 -- Steps of reading a comparison.
-use Rattle.std.proofs.Common.{◌≡◌, ◌∙◌, ℕ, ◌+◌, ◌<◌, List, [], ◌∷◌, ◌++◌, length, take, drop, get_or, refl, sym, ap, subst, add-one, arith, length-append, length-take-le, None, Ok}
+use Rattle.std.proofs.Common.{◌≡◌, ◌∙◌, ℕ, ◌+◌, ◌<◌, List, [], ◌∷◌, ◌++◌, length, take, drop, get_or, refl}
+use Rattle.std.proofs.Common.{sym, ap, subst, add-one, arith, length-append, length-take-le, None, Ok}
 use Rattle.std.proofs.Math.Seq.{drop-cons}
 use Rattle.std.proofs.lemmas.List.{take_more, take-append-drop}
 use Rattle.rv_isa.specs.declared.values.Values.{Values}
 use Rattle.rv_describe.specs.Description.{description_of}
-use Rattle.rv_job.specs.Comparison.{AreLoaded, Compares, IsAfter, IsLoaded, RefusesDescribed, RefusesLoading, RefusesProgram}
+use Rattle.rv_job.specs.Comparison.{AreLoaded, Compares, IsAfter, IsLoaded}
+use Rattle.rv_job.specs.Comparison.{RefusesDescribed, RefusesLoading, RefusesProgram}
 use Rattle.rv_job.specs.Parts.{halves_of}
 use Rattle.rv_job.specs.JobText.{RefusesAssembly}
 use Rattle.rv_job.specs.declared.errors.SimError.{SimError}
-use Rattle.rv_job.specs.declared.errors.SimError.TheVariants.{TooLong, TooManyDescriptions, Description, Described, Arrivals, Assembly, ImageDoesNotFit, DoesNotFit, Memory, WriteFailed}
+use Rattle.rv_job.specs.declared.errors.SimError.TheVariants.{TooLong, TooManyDescriptions, Description}
+use Rattle.rv_job.specs.declared.errors.SimError.TheVariants.{Described, Arrivals, Assembly, ImageDoesNotFit}
+use Rattle.rv_job.specs.declared.errors.SimError.TheVariants.{DoesNotFit, Memory, WriteFailed}
 use Rattle.rv_job.specs.declared.job.Job.{Job}
 
 -- after no description stands the whole text

@@ -1,10 +1,12 @@
 -- What stands after a separator is shorter than the text.
-use Rattle.std.proofs.Common.{◌≡◌, ℕ, suc, ◌+◌, ◌<◌, List, [], ◌∷◌, length, Option, Some, None, Bool, true, false, subst, option_map, arith}
+use Rattle.std.proofs.Common.{◌≡◌, ℕ, suc, ◌+◌, ◌<◌, List, [], ◌∷◌, length, Option}
+use Rattle.std.proofs.Common.{Some, None, Bool, true, false, subst, option_map, arith}
 use Rattle.std.specs.Prelude.{if◌then◌else◌, IfSome}
 use Rattle.std.specs.List.{after_first, before_first, position_or_len}
 use Rattle.std.specs.Option.{option_or}
 use Rattle.std.proofs.lemmas.List.{length-drop}
-use Rattle.rv_job.specs.Parts.{Halves, after_separator, halves_at_front, halves_of, is_line_feed, is_separator, later_halves, preceded}
+use Rattle.rv_job.specs.Parts.{Halves, after_separator, halves_at_front, halves_of}
+use Rattle.rv_job.specs.Parts.{is_line_feed, is_separator, later_halves, preceded}
 
 abbrev IsShorter : ℕ → Option Halves → Type 0
 IsShorter bound found = IfSome found (λ halves. length halves.after < bound)

@@ -1,5 +1,6 @@
 -- How many separators a text has, by its halves.
-use Rattle.std.proofs.Common.{◌≡◌, ◌∙◌, ℕ, suc, ◌+◌, ◌≤◌, List, [], ◌∷◌, Bool, true, false, Option, Some, None, count_by, length, option_map, refl, sym, ap, arith, length-append}
+use Rattle.std.proofs.Common.{◌≡◌, ◌∙◌, ℕ, suc, ◌+◌, ◌≤◌, List, [], ◌∷◌, Bool, true, false, Option, Some}
+use Rattle.std.proofs.Common.{None, count_by, length, option_map, refl, sym, ap, arith, length-append}
 use Rattle.std.proofs.lemmas.Bool.{le-ltb, lt-ltb}
 use Rattle.std.specs.Prelude.{if◌then◌else◌, is_some, nat_lt}
 use Rattle.std.specs.List.{after_first, before_first, position_or_len, slice_split}
@@ -7,7 +8,8 @@ use Rattle.std.specs.Option.{option_or}
 use Rattle.std.proofs.lemmas.List.Sums.{sum_by-cons}
 use Rattle.rv_isa.specs.declared.values.Values.{Values}
 use Rattle.rv_job.specs.Comparison.{AreLoaded, Compares, IsAfter, most_machines, separator_count}
-use Rattle.rv_job.specs.Parts.{Halves, after_separator, halves_at_front, halves_of, is_line_feed, is_separator, later_halves, preceded}
+use Rattle.rv_job.specs.Parts.{Halves, after_separator, halves_at_front, halves_of}
+use Rattle.rv_job.specs.Parts.{is_line_feed, is_separator, later_halves, preceded}
 use Rattle.rv_job.specs.ReadParts.{halves_in}
 use Rattle.rv_job.specs.declared.job.Job.{Job}
 use Rattle.rv_job.specs.declared.parts.Halves as read

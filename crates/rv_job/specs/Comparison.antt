@@ -1,5 +1,6 @@
 -- What a text says as a comparison: descriptions, each with a separator after it, and a program; and why it is refused.
-use Rattle.std.specs.Prelude.{◌≡◌, ◌≤◌, ◌<◌, codes, count_by, drop, if◌then◌else◌, map, take, ℕ, ◌+◌, List, [], ◌∷◌, ◌++◌, length, ⊤, Some, None, Ok, Err}
+use Rattle.std.specs.Prelude.{◌≡◌, ◌≤◌, ◌<◌, codes, count_by, drop, if◌then◌else◌, map, take}
+use Rattle.std.specs.Prelude.{ℕ, ◌+◌, List, [], ◌∷◌, ◌++◌, length, ⊤, Some, None, Ok, Err}
 use Rattle.std.specs.{List.slice_split, Str.bytes_eq}
 use Rattle.rv_isa.specs.declared.{images.Image.Image, values.Values.Values}
 use Rattle.rv_describe.specs.Description.{description_of}
@@ -8,7 +9,8 @@ use Rattle.rv_job.specs.JobText.{HasLegalLength, RefusesAssembly}
 use Rattle.rv_job.specs.Parts.{Halves, halves_of, is_line_feed, is_separator, without_mark, without_return}
 use Rattle.rv_job.specs.TextImage.{Fits, IsImageOf}
 use Rattle.rv_job.specs.declared.{comparison.Comparison.Comparison, errors.SimError.SimError, job.Job.Job}
-use Rattle.rv_job.specs.declared.errors.SimError.TheVariants.{TooLong, TooManyDescriptions, Described, DoesNotFit, Memory}
+use Rattle.rv_job.specs.declared.errors.SimError.TheVariants.{TooLong, TooManyDescriptions}
+use Rattle.rv_job.specs.declared.errors.SimError.TheVariants.{Described, DoesNotFit, Memory}
 
 -- the most machines that are compared
 abbrev pub most_machines : ℕ

@@ -5,10 +5,13 @@ use Rattle.rv_asm.specs.declared.fault.AsmError.{AsmError}
 use Rattle.rv_describe.specs.Fault.{place_of}
 use Rattle.rv_describe.specs.FaultName.{arrivals_fault_text, description_fault_name}
 use Rattle.rv_isa.specs.Key.{text_at}
-use Rattle.rv_describe.specs.declared.{arrivals_error.ArrivalsError.ArrivalsError, description_error.DescriptionError.DescriptionError}
+use Rattle.rv_describe.specs.declared.{arrivals_error.ArrivalsError.ArrivalsError}
+use Rattle.rv_describe.specs.declared.{description_error.DescriptionError.DescriptionError}
 use Rattle.rv_describe.specs.declared.description_error.DescriptionError.TheVariants as described
 use Rattle.rv_job.specs.declared.{errors.SimError.SimError, input.InputError.InputError}
-use Rattle.rv_job.specs.declared.errors.SimError.TheVariants.{TooLong, TooManyDescriptions, Description, Described, Arrivals, Assembly, ImageDoesNotFit, DoesNotFit, Memory, WriteFailed}
+use Rattle.rv_job.specs.declared.errors.SimError.TheVariants.{TooLong, TooManyDescriptions, Description}
+use Rattle.rv_job.specs.declared.errors.SimError.TheVariants.{Described, Arrivals, Assembly, ImageDoesNotFit}
+use Rattle.rv_job.specs.declared.errors.SimError.TheVariants.{DoesNotFit, Memory, WriteFailed}
 use Rattle.rv_job.specs.declared.input.InputError.TheVariants as unread
 
 -- what stands between the name of a description's fault and the key that it names

@@ -2,7 +2,8 @@
 use Rattle.std.specs.Prelude.{◌<◌, ℕ, List, length}
 use Rattle.rv_isa.specs.declared.{images.Image.Image, lines.Arrival.Arrival, values.Values.Values}
 use Rattle.rv_job.specs.Input.{most_bytes}
-use Rattle.rv_job.specs.JobText.{Assembles, Describes, HasLegalLength, Lists, RefusesArrivals, RefusesAssembly, RefusesDescription}
+use Rattle.rv_job.specs.JobText.{Assembles, Describes, HasLegalLength, Lists}
+use Rattle.rv_job.specs.JobText.{RefusesArrivals, RefusesAssembly, RefusesDescription}
 use Rattle.rv_job.specs.Parts.{parts_of}
 use Rattle.rv_job.specs.TextImage.{Fits}
 use Rattle.rv_job.specs.declared.errors.SimError.{SimError}

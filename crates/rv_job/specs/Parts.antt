@@ -1,6 +1,8 @@
 -- The parts of a job: description, arrivals and assembly, with a separator between two.
-use Rattle.std.specs.Prelude.{ℕ, ◌-◌, List, [], ◌∷◌, ◌++◌, Bool, ◌==◌, ◌||◌, if◌then◌else◌, Option, Some, None, codes, drop, length, take}
-use Rattle.std.specs.{List.before_first, List.after_first, Option.option_map, Option.option_map_or, Option.option_or, Str.bytes_eq}
+use Rattle.std.specs.Prelude.{ℕ, ◌-◌, List, [], ◌∷◌, ◌++◌, Bool, ◌==◌, ◌||◌, if◌then◌else◌}
+use Rattle.std.specs.Prelude.{Option, Some, None, codes, drop, length, take}
+use Rattle.std.specs.{List.before_first, List.after_first, Option.option_map}
+use Rattle.std.specs.{Option.option_map_or, Option.option_or, Str.bytes_eq}
 
 -- the byte at which a line ends
 abbrev pub is_line_feed : ℕ → Bool

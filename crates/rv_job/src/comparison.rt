@@ -1,7 +1,9 @@
 ghost use Rattle.std.specs.Prelude.{◌≡◌, ◌≤◌, List, [], IfOk, IfErr, None, Ok, length, map, nat_lt};
 ghost use Rattle.rv_asm.specs.Kept.{lines_left};
 ghost use Rattle.rv_describe.specs.Description.{description_of};
-ghost use Rattle.rv_job.specs.Comparison.{AreLoaded, Compares, IsAfter, IsComparisonOf, IsLoaded, RefusesComparison, RefusesDescribed, RefusesDescriptions, RefusesLoading, RefusesProgram, first_of, machine_name, most_machines, names_of, separator_count};
+ghost use Rattle.rv_job.specs.Comparison.{AreLoaded, Compares, IsAfter, IsComparisonOf, IsLoaded, RefusesComparison};
+ghost use Rattle.rv_job.specs.Comparison.{RefusesDescribed, RefusesDescriptions, RefusesLoading, RefusesProgram};
+ghost use Rattle.rv_job.specs.Comparison.{first_of, machine_name, most_machines, names_of, separator_count};
 ghost use Rattle.rv_job.specs.Parts.{halves_of};
 
 use crate::errors::SimError;

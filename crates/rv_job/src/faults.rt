@@ -1,5 +1,6 @@
 ghost use Rattle.std.specs.Prelude.{◌≡◌};
-ghost use Rattle.rv_job.specs.Fault.{arrivals_line, assembly_line, described_line, description_line, fault_line, fault_status, gap, unfit_line};
+ghost use Rattle.rv_job.specs.Fault.{arrivals_line, assembly_line, described_line};
+ghost use Rattle.rv_job.specs.Fault.{description_line, fault_line, fault_status, gap, unfit_line};
 ghost use Rattle.rv_text.specs.Said.{Says};
 ghost use Rattle.rv_text.specs.Written.{IsWritten};
 

@@ -1,6 +1,7 @@
 ghost use Rattle.std.specs.Prelude.{◌≡◌, ◌≤◌, length, option_map, option_copied};
 ghost use Rattle.std.specs.List.{position_or_len};
-ghost use Rattle.rv_job.specs.Parts.{after_separator, halves_of, later_halves, parts_of, is_line_feed, is_separator, without_mark, without_return};
+ghost use Rattle.rv_job.specs.Parts.{after_separator, halves_of, later_halves, parts_of};
+ghost use Rattle.rv_job.specs.Parts.{is_line_feed, is_separator, without_mark, without_return};
 ghost use Rattle.rv_job.specs.ReadParts.{halves_in, parts_in};
 
 // The line between two parts, without and with a carriage return.

@@ -1,5 +1,6 @@
 -- Waits that are written one after another.
-use Rattle.std.proofs.Common.{◌≡◌, ◌∙◌, ◌∷◌, ◌++◌, ℕ, Bool, true, false, List, [], refl, sym, ap, append-nil, codes, if◌then◌else◌, eq-eqb, ne_eqb}
+use Rattle.std.proofs.Common.{◌≡◌, ◌∙◌, ◌∷◌, ◌++◌, ℕ, Bool, true, false, List, [], refl}
+use Rattle.std.proofs.Common.{sym, ap, append-nil, codes, if◌then◌else◌, eq-eqb, ne_eqb}
 use Rattle.std.specs.Prelude.{◌==◌}
 use Rattle.rv_log.specs.Waited.{cycles_of, one_text, wait_text, waits_text, words_after}
 use Rattle.rv_log.specs.declared.wait.Wait.{Wait}

@@ -2,7 +2,8 @@
 use Rattle.std.specs.Prelude.{ℕ, ◌==◌, ◌&&◌, Bool, false, if◌then◌else◌, List, [], ◌++◌, Option, Some, None, codes}
 use Rattle.rv_passage.specs.declared.passage.{Ending.Ending, Passage.Passage}
 use Rattle.rv_passage.specs.declared.passage.Ending.TheVariants.{InFlight, Retired, Trapped, Squashed}
-use Rattle.rv_passage.specs.{Passage.is_in_flight, Passage.left_in, Result.issued_in, Result.ready_in, Result.waits_for_bus}
+use Rattle.rv_passage.specs.{Passage.is_in_flight, Passage.left_in, Result.issued_in}
+use Rattle.rv_passage.specs.{Result.ready_in, Result.waits_for_bus}
 use Rattle.rv_source.specs.Listing.{Listed}
 use Rattle.rv_log.specs.Command.{appearance_text, flush_line, retirement_line, stage_line}
 use Rattle.rv_log.specs.Details.{details_text}

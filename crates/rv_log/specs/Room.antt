@@ -1,6 +1,7 @@
 -- What a log says of the fetched words that wait for room: what the oldest of them waits for, from the first cycle on
 -- in which it does.
-use Rattle.std.specs.Prelude.{ℕ, ◌&&◌, not, Bool, true, false, if◌then◌else◌, is_none, List, [], ◌++◌, codes, decimal, Option, Some, None}
+use Rattle.std.specs.Prelude.{ℕ, ◌&&◌, not, Bool, true, false, if◌then◌else◌, is_none}
+use Rattle.std.specs.Prelude.{List, [], ◌++◌, codes, decimal, Option, Some, None}
 use Rattle.std.specs.{List.find, Option.option_map}
 use Rattle.rv_hardware.specs.Report.{is_same_stall}
 use Rattle.rv_hardware.specs.declared.report.Stall.{Stall}

@@ -1,6 +1,7 @@
 -- What an instruction waited for until it left the hardware, and in how many cycles: those in which a picture of it has
 -- a `.` or a `~`.
-use Rattle.std.specs.Prelude.{ℕ, ◌+◌, ◌-◌, ◌==◌, Bool, true, false, if◌then◌else◌, nat_lt, List, [], ◌∷◌, ◌++◌, codes, decimal, Option, Some, None}
+use Rattle.std.specs.Prelude.{ℕ, ◌+◌, ◌-◌, ◌==◌, Bool, true, false, if◌then◌else◌, nat_lt}
+use Rattle.std.specs.Prelude.{List, [], ◌∷◌, ◌++◌, codes, decimal, Option, Some, None}
 use Rattle.rv_isa.specs.Instruction.{kind_of_word}
 use Rattle.rv_drawing.specs.{Cell.is_past, Wait.result_text, Wait.unit_text}
 use Rattle.rv_passage.specs.{Passage.left_in, Result.issued_in, Result.ready_in}

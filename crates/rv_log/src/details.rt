@@ -1,6 +1,7 @@
 ghost use Rattle.std.specs.Prelude.{◌≤◌, ◌++◌, Some, codes, decimal, length};
 ghost use Rattle.rv_drawing.specs.Title.{correction_text};
-ghost use Rattle.rv_log.specs.Details.{written_text, cause_text, ending_text, cost_text, details_text, predicted_text, prediction_text};
+ghost use Rattle.rv_log.specs.Details.{written_text, cause_text, ending_text, cost_text};
+ghost use Rattle.rv_log.specs.Details.{details_text, predicted_text, prediction_text};
 ghost use Rattle.rv_text.specs.Line.{word_text};
 ghost use Rattle.rv_text.specs.Said.{Says};
 

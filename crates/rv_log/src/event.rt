@@ -1,5 +1,6 @@
 ghost use Rattle.std.specs.Prelude.{◌≡◌, ◌++◌, codes};
-ghost use Rattle.rv_log.specs.Event.{is_at, stage_at, begins_to_wait, bus_wait_at, fetched_text, fetch_at, retired_in, end_line, ended_text, left_at, events_at};
+ghost use Rattle.rv_log.specs.Event.{is_at, stage_at, begins_to_wait, bus_wait_at, fetched_text};
+ghost use Rattle.rv_log.specs.Event.{fetch_at, retired_in, end_line, ended_text, left_at, events_at};
 ghost use Rattle.rv_passage.specs.Result.{ready_in};
 ghost use Rattle.rv_text.specs.Said.{Says};
 

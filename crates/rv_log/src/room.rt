@@ -1,5 +1,6 @@
 ghost use Rattle.std.specs.Prelude.{◌≡◌};
-ghost use Rattle.rv_log.specs.Room.{is_as_before, is_fetched_word, is_for_room, oldest_fetched, room_at, room_for, room_line, room_of};
+ghost use Rattle.rv_log.specs.Room.{is_as_before, is_fetched_word, is_for_room};
+ghost use Rattle.rv_log.specs.Room.{oldest_fetched, room_at, room_for, room_line, room_of};
 ghost use Rattle.rv_text.specs.Said.{Says};
 
 use itoa::Buffer;

@@ -1,5 +1,6 @@
 ghost use Rattle.std.specs.Prelude.{◌≡◌, ◌+◌};
-ghost use Rattle.rv_log.specs.Waited.{after_or_left, cycles_of, is_later, issue_awaited, last_of, operand_wait, or_left, wait};
+ghost use Rattle.rv_log.specs.Waited.{after_or_left, cycles_of, is_later, issue_awaited};
+ghost use Rattle.rv_log.specs.Waited.{last_of, operand_wait, or_left, wait};
 ghost use Rattle.rv_drawing.specs.Cell.{is_past};
 ghost use Rattle.rv_passage.specs.Result.{issued_in, ready_in};
 

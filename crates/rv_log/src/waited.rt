@@ -1,6 +1,7 @@
 ghost use Rattle.std.specs.Prelude.{◌≡◌, ◌≤◌, ◌++◌, codes, decimal, length};
 ghost use Rattle.rv_drawing.specs.Wait.{result_text};
-ghost use Rattle.rv_log.specs.Waited.{awaited_name, awaited_text, one_text, wait_text, waited_text, waits_of, waits_text, words_after};
+ghost use Rattle.rv_log.specs.Waited.{awaited_name, awaited_text, one_text, wait_text};
+ghost use Rattle.rv_log.specs.Waited.{waited_text, waits_of, waits_text, words_after};
 ghost use Rattle.rv_text.specs.Line.{word_text};
 ghost use Rattle.rv_text.specs.Said.{Says};
 

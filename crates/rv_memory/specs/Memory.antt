@@ -1,4 +1,5 @@
-use Rattle.std.specs.Prelude.{◌≡◌, ℕ, ◌+◌, ◌-◌, ◌/◌, ◌%◌, ◌==◌, ◌&&◌, Bool, if◌then◌else◌, List, length, nat_le, slice_get, slice_range, Option, Some, None}
+use Rattle.std.specs.Prelude.{◌≡◌, ℕ, ◌+◌, ◌-◌, ◌/◌, ◌%◌, ◌==◌, ◌&&◌, Bool, if◌then◌else◌}
+use Rattle.std.specs.Prelude.{List, length, nat_le, slice_get, slice_range, Option, Some, None}
 use Rattle.rv_isa.specs.Bytes.{number_of, bytes_of_number}
 use Rattle.rv_memory.specs.Bytes.{overwritten}
 

@@ -1,9 +1,11 @@
-ghost use Rattle.std.specs.Prelude.{◌≡◌, ◌+◌, ◌-◌, ◌*◌, ◌%◌, ◌^◌, ◌<◌, ◌≤◌, length, replicate, slice_range, IsTrue, IfOk, refl};
+ghost use Rattle.std.specs.Prelude.{◌≡◌, ◌+◌, ◌-◌, ◌*◌, ◌%◌, ◌^◌, ◌<◌, ◌≤◌, length};
+ghost use Rattle.std.specs.Prelude.{replicate, slice_range, IsTrue, IfOk, refl};
 ghost use Rattle.std.proofs.Common.{◌∙◌};
 ghost use Rattle.rv_isa.specs.Description.{IsRamBase, IsRamSize};
 ghost use Rattle.rv_isa.specs.Operation.{bytes_of};
 ghost use Rattle.rv_memory.specs.Bytes.{overwritten};
-ghost use Rattle.rv_memory.specs.Memory.{IsSized, is_in_ram, is_writable, number_at, with_stored, byte_seen, fetched_word};
+ghost use Rattle.rv_memory.specs.Memory.{IsSized, is_in_ram, is_writable, number_at};
+ghost use Rattle.rv_memory.specs.Memory.{with_stored, byte_seen, fetched_word};
 
 use crate::Backing;
 use crate::byte_access::{number_in, store_in};

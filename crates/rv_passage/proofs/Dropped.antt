@@ -1,5 +1,6 @@
 -- Rows after those that are dropped, and those that are still in flight among them.
-use Rattle.std.proofs.Common.{◌≡◌, ◌∙◌, ℕ, suc, ◌+◌, ◌-◌, ◌≤◌, nat_lt, true, false, List, [], ◌∷◌, ◌++◌, length, filter, map, take, drop, None, Some, refl, ap, sym, arith, inl, inr, length-drop}
+use Rattle.std.proofs.Common.{◌≡◌, ◌∙◌, ℕ, suc, ◌+◌, ◌-◌, ◌≤◌, nat_lt, true, false, List, [], ◌∷◌, ◌++◌, length}
+use Rattle.std.proofs.Common.{filter, map, take, drop, None, Some, refl, ap, sym, arith, inl, inr, length-drop}
 use Rattle.std.specs.List.{list_all, position, position_or_len}
 use Rattle.std.proofs.Math.Seq.{drop-append_seam, paste}
 use Rattle.std.proofs.lemmas.Bool.{cases_Bool, ltb-false}

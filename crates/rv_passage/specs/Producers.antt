@@ -1,12 +1,14 @@
 -- Whose results an instruction waits for.
-use Rattle.std.specs.Prelude.{ℕ, ◌==◌, ◌&&◌, Bool, if◌then◌else◌, is_none, is_some, List, reverse, Option, Some, None, option_and_then}
+use Rattle.std.specs.Prelude.{ℕ, ◌==◌, ◌&&◌, Bool, if◌then◌else◌, is_none, is_some}
+use Rattle.std.specs.Prelude.{List, reverse, Option, Some, None, option_and_then}
 use Rattle.std.specs.List.{find, slice_index_or}
 use Rattle.std.specs.Option.{option_map, option_or}
 use Rattle.rv_isa.specs.Instruction.{is_target, kind_of_word, target_of_word}
 use Rattle.rv_isa.specs.Operands.{kind_of, sources_of}
 use Rattle.rv_isa.specs.declared.instructions.Instr.{Instr}
 use Rattle.rv_passage.specs.Passage.{is_in_flight, nothing_awaited}
-use Rattle.rv_passage.specs.declared.{passage.Passage.Passage, producers.Producer.Producer, producers.Producers.Producers}
+use Rattle.rv_passage.specs.declared.{passage.Passage.Passage, producers.Producer.Producer}
+use Rattle.rv_passage.specs.declared.{producers.Producers.Producers}
 
 -- an instruction is in flight, and writes a register
 abbrev pub is_writer : ℕ → Passage → Bool

@@ -117,7 +117,8 @@ fn start_of(execution: Execution) -> Issue
 }
 
 impl Passage {
-    ghost use Rattle.rv_passage.specs.Passage.{is_in_flight, is_unsquashed, of_entry, of_fetched, retired_by, trapped_by, squashed_in};
+    ghost use Rattle.rv_passage.specs.Passage.{is_in_flight, is_unsquashed, of_entry};
+    ghost use Rattle.rv_passage.specs.Passage.{of_fetched, retired_by, trapped_by, squashed_in};
     ghost use Rattle.rv_passage.specs.Prediction.{correction_of, is_mispredicted, prediction_of};
     ghost use Rattle.rv_passage.specs.Result.{has_come, issued_in, ready_in, waits_for_bus};
 

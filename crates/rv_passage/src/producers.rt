@@ -1,6 +1,7 @@
 ghost use Rattle.std.specs.Prelude.{◌≡◌, Some, true, option_and_then};
 ghost use Rattle.std.specs.Option.{option_map};
-ghost use Rattle.rv_passage.specs.Producers.{broadcast_among, followed_in, is_to_come, is_writer, other_than, producer_among, producer_by, producers_among, producers_for};
+ghost use Rattle.rv_passage.specs.Producers.{broadcast_among, followed_in, is_to_come, is_writer, other_than};
+ghost use Rattle.rv_passage.specs.Producers.{producer_among, producer_by, producers_among, producers_for};
 
 use crate::passage::Passage;
 use rv_decode::Decoded;

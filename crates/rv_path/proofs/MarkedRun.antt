@@ -1,6 +1,7 @@
 -- The marks of a run's path: what a marker has of the cycles so far, and that what is left of the path at the end has
 -- all that are marked.
-use Rattle.std.proofs.Common.{◌≡◌, ◌⊎◌, ◌∙◌, ℕ, ◌+◌, ◌-◌, ◌^◌, ◌<◌, ◌≤◌, List, [], ◌∷◌, Option, Some, sym, ap, subst, arith, length}
+use Rattle.std.proofs.Common.{◌≡◌, ◌⊎◌, ◌∙◌, ℕ, ◌+◌, ◌-◌, ◌^◌, ◌<◌, ◌≤◌, List, []}
+use Rattle.std.proofs.Common.{◌∷◌, Option, Some, sym, ap, subst, arith, length}
 use Rattle.std.proofs.Common.{length-append, take, inl, inr}
 use Rattle.std.proofs.lemmas.Bool.{cases_order}
 use Rattle.std.proofs.lemmas.List.{take_all}
@@ -32,7 +33,8 @@ use Rattle.rv_causes.specs.Setting.{last_left}
 use Rattle.rv_causes.specs.Walk.{path_to}
 use Rattle.rv_causes.specs.Window.{kept_events}
 use Rattle.rv_causes.specs.WindowFrom.{HasAllMarked, IsNumbering}
-use Rattle.rv_causes.specs.declared.{event.Event.Event, numbering.Numbering.Numbering, path.Path.Path, point.Point.Point}
+use Rattle.rv_causes.specs.declared.{event.Event.Event, numbering.Numbering.Numbering}
+use Rattle.rv_causes.specs.declared.{path.Path.Path, point.Point.Point}
 use Rattle.rv_path.specs.Marker.{IsMarking}
 use Rattle.rv_path.specs.Marking.{IsMarked, marks_of}
 use Rattle.rv_path.specs.OnPath.{read_by}

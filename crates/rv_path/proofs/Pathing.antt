@@ -22,7 +22,8 @@ use Rattle.rv_causes.specs.Reading.{CycleRead, read_of}
 use Rattle.rv_causes.specs.Setting.{last_left}
 use Rattle.rv_causes.specs.Walk.{path_to}
 use Rattle.rv_causes.specs.Window.{IsWindow}
-use Rattle.rv_causes.specs.declared.{before.Before.Before, event.Event.Event, path.Path.Path, word_cycles.WordCycles.WordCycles}
+use Rattle.rv_causes.specs.declared.{before.Before.Before, event.Event.Event}
+use Rattle.rv_causes.specs.declared.{path.Path.Path, word_cycles.WordCycles.WordCycles}
 use Rattle.rv_causes.proofs.Accounts.{adds_up, cycles-all}
 use Rattle.rv_causes.proofs.Followed.{PassesIn, followed_on}
 use Rattle.rv_causes.proofs.Walks.{path-in_time}

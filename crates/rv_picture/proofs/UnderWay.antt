@@ -1,5 +1,6 @@
 -- A run under way that is recorded: one more cycle of it, and its end.
-use Rattle.std.proofs.Common.{◌≡◌, ◌∙◌, ℕ, ◌+◌, ◌≤◌, ◌≢◌, true, false, List, [], ◌∷◌, ◌++◌, drop, length, take, Option, refl, sym, ap, subst, arith}
+use Rattle.std.proofs.Common.{◌≡◌, ◌∙◌, ℕ, ◌+◌, ◌≤◌, ◌≢◌, true, false, List, [], ◌∷◌, ◌++◌}
+use Rattle.std.proofs.Common.{drop, length, take, Option, refl, sym, ap, subst, arith}
 use Rattle.std.proofs.Math.Seq.{drop-append_seam, take-append_seam}
 use Rattle.std.proofs.lemmas.Bool.{false≢true}
 use Rattle.std.proofs.lemmas.List.{drop_all, take-append-drop, take_all}
@@ -21,7 +22,8 @@ use Rattle.rv_passage.specs.Table.{CanCount, Passages, after_cycle, table_at}
 use Rattle.rv_passage.specs.Walk.{all_kept, hardware_after}
 use Rattle.rv_passage.proofs.EndedRun.{History-split, history_end, length-reports_of, length-run, run_earlier, run_on}
 use Rattle.rv_passage.proofs.Followed.{can_count, followed_nothing, followed_on}
-use Rattle.rv_picture.specs.Recording.{IsRecorded, IsRecording, Recorded, is_limit, recorded_from, stalls_in, stopped_at}
+use Rattle.rv_picture.specs.Recording.{IsRecorded, IsRecording, Recorded, is_limit}
+use Rattle.rv_picture.specs.Recording.{recorded_from, stalls_in, stopped_at}
 
 -- a reason that passes the test is the limit
 pub is_by_limit : (reason : Stop) → is_limit reason ≡ true → reason ≡ stop.Limit

@@ -1,6 +1,8 @@
 ghost use Rattle.std.specs.Prelude.{◌≡◌, ◌++◌, ◌*◌, ◌^◌, ◌<◌, ◌≤◌, ◌/◌, ◌%◌, codes, decimal, option_copied, take};
 ghost use Rattle.std.specs.List.{flat_map};
-ghost use Rattle.rv_profile.specs.Text.{columns, ended_cells, filled_cells, last_cells, line_cells, mean_cells, path_cell, path_column, place_cells, table_head, table_text, wait_cells, waits_cells, word_line};
+ghost use Rattle.rv_profile.specs.Text.{columns, ended_cells, filled_cells, last_cells, line_cells};
+ghost use Rattle.rv_profile.specs.Text.{mean_cells, path_cell, path_column, place_cells};
+ghost use Rattle.rv_profile.specs.Text.{table_head, table_text, wait_cells, waits_cells, word_line};
 ghost use Rattle.rv_source.specs.Listing.{line_at};
 ghost use Rattle.rv_text.specs.Line.{word_text};
 ghost use Rattle.rv_text.specs.Plain.{plain_text};

@@ -4,7 +4,8 @@ use Rattle.std.specs.List.{AllZip}
 use Rattle.rv_isa.specs.declared.values.Values.{Values}
 use Rattle.rv_job.specs.declared.job.Job.{Job}
 use Rattle.rv_report.specs.Sensitivity.{in_order, sensitivity_table, tried_run}
-use Rattle.rv_report.specs.declared.{losses.ComparedRun.ComparedRun, sensitivity.TriedRun.TriedRun, shown.TableOptions.TableOptions}
+use Rattle.rv_report.specs.declared.{losses.ComparedRun.ComparedRun, sensitivity.TriedRun.TriedRun}
+use Rattle.rv_report.specs.declared.{shown.TableOptions.TableOptions}
 use Rattle.rv_sensitivity.specs.Neighbours.{neighbours_of}
 use Rattle.rv_sensitivity.specs.declared.{change.Change.Change, neighbour.Neighbour.Neighbour}
 use Rattle.rv_program.specs.Comparison.{IsAtMostOneText, IsRunOn}

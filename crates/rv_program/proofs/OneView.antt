@@ -1,5 +1,6 @@
 -- A job with a described predictor has one view of each kind.
-use Rattle.std.proofs.Common.{◌≡◌, ◌∙◌, ◌+◌, ◌^◌, ◌≤◌, ℕ, Bool, true, false, List, Option, None, Some, ap, subst, sym, arith}
+use Rattle.std.proofs.Common.{◌≡◌, ◌∙◌, ◌+◌, ◌^◌, ◌≤◌, ℕ, Bool, true, false}
+use Rattle.std.proofs.Common.{List, Option, None, Some, ap, subst, sym, arith}
 use Rattle.rv_drawing.specs.declared.mark.Mark.{Mark}
 use Rattle.rv_explain.proofs.OneExplanation.{one_explanation}
 use Rattle.rv_explain.specs.Explanation.{IsExplanation}

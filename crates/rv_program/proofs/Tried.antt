@@ -4,7 +4,8 @@ use Rattle.std.proofs.lemmas.List.{take_all, take_more}
 use Rattle.std.specs.List.{AllZip}
 use Rattle.rv_job.specs.declared.job.Job.{Job}
 use Rattle.rv_report.specs.Sensitivity.{AreInOrder, in_order, sensitivity_table}
-use Rattle.rv_report.specs.declared.{losses.ComparedRun.ComparedRun, sensitivity.TriedRun.TriedRun, shown.TableOptions.TableOptions}
+use Rattle.rv_report.specs.declared.{losses.ComparedRun.ComparedRun, sensitivity.TriedRun.TriedRun}
+use Rattle.rv_report.specs.declared.{shown.TableOptions.TableOptions}
 use Rattle.rv_sensitivity.specs.Neighbours.{neighbours_of}
 use Rattle.rv_sensitivity.specs.declared.{change.Change.Change, neighbour.Neighbour.Neighbour}
 use Rattle.rv_program.specs.Comparison.{IsRun}

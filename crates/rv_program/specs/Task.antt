@@ -23,7 +23,8 @@ use Rattle.rv_job.specs.declared.errors.SimError.TheVariants.{Memory, WriteFaile
 use Rattle.rv_picture.specs.declared.picture.{Form.Form, Rows.Rows, RunEnd.RunEnd, View.View}
 use Rattle.rv_picture.specs.declared.picture.Form.TheVariants.{Text, Svg}
 use Rattle.rv_picture.specs.declared.picture.Rows.TheVariants.{All, Unsquashed}
-use Rattle.rv_report.specs.declared.{options.Options.Options, shown.{Shown.Shown as ShownWord, TableOptions.TableOptions}}
+use Rattle.rv_report.specs.declared.{options.Options.Options}
+use Rattle.rv_report.specs.declared.{shown.{Shown.Shown as ShownWord, TableOptions.TableOptions}}
 use Rattle.rv_report.specs.declared.shown.Shown.TheVariants as cell
 use Rattle.rv_sensitivity.specs.Setting.{changes_of}
 use Rattle.rv_sensitivity.specs.declared.setting.Settings.{Settings}

@@ -3,7 +3,9 @@ ghost use Rattle.rv_isa.specs.Description.{IsLegalPredictor};
 ghost use Rattle.rv_job.specs.Fault.{fault_line, fault_status};
 ghost use Rattle.rv_job.specs.FaultStream.{Reports};
 ghost use Rattle.rv_job.specs.JobRefusal.{RefusesJob};
-ghost use Rattle.rv_program.specs.Task.{Asks, AsksForNeighbours, AsksForView, Refuses, Ends, asked, column_of, done, ended_after, ended_by, figures_of, form_of, plain_options, predictor_of, rows_of, shown_word, stop_status, table_options};
+ghost use Rattle.rv_program.specs.Task.{Asks, AsksForNeighbours, AsksForView, Refuses, Ends, asked, column_of};
+ghost use Rattle.rv_program.specs.Task.{done, ended_after, ended_by, figures_of, form_of, plain_options};
+ghost use Rattle.rv_program.specs.Task.{predictor_of, rows_of, shown_word, stop_status, table_options};
 
 use crate::boxed_predictor::BoxedPredictor;
 use crate::compare::compare;

@@ -1,5 +1,6 @@
 -- The first lines with a fault, as a loop counts them.
-use Rattle.std.proofs.Common.{◌≡◌, ◌∙◌, ℕ, zero, suc, ◌+◌, ◌-◌, ◌≤◌, ◌==◌, List, [], ◌∷◌, ◌++◌, append_assoc, ap, arith, drop, length, length-append, refl, sym, take, Option, Some, None}
+use Rattle.std.proofs.Common.{◌≡◌, ◌∙◌, ℕ, zero, suc, ◌+◌, ◌-◌, ◌≤◌, ◌==◌, List, [], ◌∷◌, ◌++◌, append_assoc}
+use Rattle.std.proofs.Common.{ap, arith, drop, length, length-append, refl, sym, take, Option, Some, None}
 use Rattle.std.specs.List.{flat_map, slice_split}
 use Rattle.rv_asm.specs.Layout.{line_in}
 use Rattle.rv_asm.specs.declared.fault.AsmFault.{AsmFault}

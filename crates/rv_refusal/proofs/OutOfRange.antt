@@ -1,5 +1,6 @@
 -- The ranges of operations are those of the assembler.
-use Rattle.std.proofs.Common.{◌≡◌, ◌==◌, ◌%◌, ◌||◌, ◌-ℤ◌, ℕ, ℤ, pos, Bool, true, false, not, Result, inl, inr, refl, unsigned_abs, negsuc}
+use Rattle.std.proofs.Common.{◌≡◌, ◌==◌, ◌%◌, ◌||◌, ◌-ℤ◌, ℕ, ℤ, pos, Bool, true, false}
+use Rattle.std.proofs.Common.{not, Result, inl, inr, refl, unsigned_abs, negsuc}
 use Rattle.std.proofs.lemmas.Bool.{cases_Bool}
 use Rattle.rv_asm.specs.Meaning.{distance, natural, one, ranged}
 use Rattle.rv_asm.specs.Statement.{and_then, is_between}

@@ -7,7 +7,8 @@ use Rattle.rv_describe.specs.declared.arrivals_error.ArrivalsError.TheVariants.{
 use Rattle.rv_describe.specs.declared.field.Field.TheVariants.{Cycle, Line, Level}
 use Rattle.rv_job.specs.Parts.{Parts}
 use Rattle.rv_refusal.specs.Caret.{caret_below}
-use Rattle.rv_refusal.specs.EntryLine.{EntryLine, entry_on, field_names, field_on, first_sought, heading_names, in_entry, unknown_on}
+use Rattle.rv_refusal.specs.EntryLine.{EntryLine, entry_on, field_names, field_on}
+use Rattle.rv_refusal.specs.EntryLine.{first_sought, heading_names, in_entry, unknown_on}
 use Rattle.rv_refusal.specs.KeyLine.{is_none_of}
 use Rattle.rv_refusal.specs.Lines.{line_feeds}
 use Rattle.rv_refusal.specs.Near.{hint_line}

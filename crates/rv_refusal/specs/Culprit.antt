@@ -1,6 +1,7 @@
 -- From which token on a line is at fault.
 use denote.Ref.{Bor}
-use Rattle.std.specs.Prelude.{ℕ, ◌-◌, ◌==◌, List, [], ◌∷◌, length, Bool, true, false, not, ◌&&◌, ◌||◌, if◌then◌else◌, Option, Some, None, codes, drop, option_and_then, option_map, pos, unwrap_or}
+use Rattle.std.specs.Prelude.{ℕ, ◌-◌, ◌==◌, List, [], ◌∷◌, length, Bool, true, false, not, ◌&&◌, ◌||◌, if◌then◌else◌}
+use Rattle.std.specs.Prelude.{Option, Some, None, codes, drop, option_and_then, option_map, pos, unwrap_or}
 use Rattle.std.specs.{List.before_first, List.find, List.list_all, List.slice_split, Option.option_map_or, Str.bytes_eq}
 use Rattle.rv_isa.specs.declared.operations.Width.{Width}
 use Rattle.rv_asm.specs.Layout.{body_of}

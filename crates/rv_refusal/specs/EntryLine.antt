@@ -1,5 +1,6 @@
 -- The lines on which the entries of a list of arrivals stand, and their fields.
-use Rattle.std.specs.Prelude.{ℕ, ◌+◌, ◌==◌, ◌&&◌, Bool, is_some, List, [], ◌∷◌, drop, if◌then◌else◌, Option, Some, None, option_map, option_and_then, codes}
+use Rattle.std.specs.Prelude.{ℕ, ◌+◌, ◌==◌, ◌&&◌, Bool, is_some, List, [], ◌∷◌, drop, if◌then◌else◌}
+use Rattle.std.specs.Prelude.{Option, Some, None, option_map, option_and_then, codes}
 use Rattle.std.specs.{List.slice_split, Option.option_or, Str.bytes_eq}
 use Rattle.rv_refusal.specs.KeyLine.{is_none_of}
 use Rattle.rv_job.specs.Parts.{without_mark}

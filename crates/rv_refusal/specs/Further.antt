@@ -1,5 +1,6 @@
 -- The faults of the lines after the first fault.
-use Rattle.std.specs.Prelude.{ℕ, ◌+◌, ◌-◌, ◌==◌, List, [], ◌∷◌, ◌++◌, length, take, drop, codes, decimal, if◌then◌else◌, Option, Some, None, nat_le}
+use Rattle.std.specs.Prelude.{ℕ, ◌+◌, ◌-◌, ◌==◌, List, [], ◌∷◌, ◌++◌, length, take, drop}
+use Rattle.std.specs.Prelude.{codes, decimal, if◌then◌else◌, Option, Some, None, nat_le}
 use Rattle.std.specs.{List.flat_map, List.slice_split, Result.result_err}
 use Rattle.rv_asm.specs.Layout.{Line, Unreadable, Readable, line_in, statement_in}
 use Rattle.rv_asm.specs.declared.fault.AsmFault.{AsmFault}

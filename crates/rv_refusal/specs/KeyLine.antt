@@ -1,5 +1,6 @@
 -- The lines on which the keys of a description stand.
-use Rattle.std.specs.Prelude.{ℕ, ◌+◌, ◌==◌, Bool, not, List, [], ◌∷◌, map, if◌then◌else◌, Option, Some, None, option_map, option_and_then, option_copied}
+use Rattle.std.specs.Prelude.{ℕ, ◌+◌, ◌==◌, Bool, not, List, [], ◌∷◌, map, if◌then◌else◌}
+use Rattle.std.specs.Prelude.{Option, Some, None, option_map, option_and_then, option_copied}
 use Rattle.std.specs.{List.list_any, List.slice_split, Option.option_map_or, Option.option_or, Str.bytes_eq}
 use Rattle.rv_isa.specs.Key.{joined}
 use Rattle.rv_job.specs.Parts.{without_mark}

@@ -1,6 +1,7 @@
 -- The names on the lines of a text in TOML: a table's in brackets, and a key before `=`. A name is of bare keys with
 -- dots between them.
-use Rattle.std.specs.Prelude.{ℕ, ◌+◌, ◌==◌, ◌||◌, Bool, false, List, [], ◌∷◌, drop, take, if◌then◌else◌, Option, Some, None}
+use Rattle.std.specs.Prelude.{ℕ, ◌+◌, ◌==◌, ◌||◌, Bool, false, List, [], ◌∷◌}
+use Rattle.std.specs.Prelude.{drop, take, if◌then◌else◌, Option, Some, None}
 use Rattle.std.specs.{Char.is_ascii_alphanumeric, List.prefix_len}
 
 -- a blank or a tab

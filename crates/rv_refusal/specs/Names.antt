@@ -1,5 +1,6 @@
 -- The names that are known, and those that are not.
-use Rattle.std.specs.Prelude.{ℕ, ◌==◌, List, [], ◌∷◌, ◌++◌, map, Bool, true, false, if◌then◌else◌, Option, None, codes, option_and_then}
+use Rattle.std.specs.Prelude.{ℕ, ◌==◌, List, [], ◌∷◌, ◌++◌, map, Bool, true, false}
+use Rattle.std.specs.Prelude.{if◌then◌else◌, Option, None, codes, option_and_then}
 use Rattle.std.specs.{List.filter, List.flat_map, List.slice_split, Option.option_map_or, Str.bytes_eq}
 use Rattle.rv_isa.specs.Csr as csr
 use Rattle.rv_isa.specs.Csr.{row_of}

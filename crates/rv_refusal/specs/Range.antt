@@ -1,11 +1,13 @@
 -- Which values a statement takes.
-use Rattle.std.specs.Prelude.{◌≡◌, ℕ, ℤ, pos, negsuc, ◌-ℤ◌, ◌||◌, Bool, true, false, not, List, [], ◌++◌, codes, Option, Some, None, Result, Err}
+use Rattle.std.specs.Prelude.{◌≡◌, ℕ, ℤ, pos, negsuc, ◌-ℤ◌, ◌||◌, Bool, true, false, not}
+use Rattle.std.specs.Prelude.{List, [], ◌++◌, codes, Option, Some, None, Result, Err}
 use Rattle.std.specs.{Fmt.signed_decimal, Option.option_map_or}
 use Rattle.rv_isa.specs.declared.operations.Width.{Width}
 use Rattle.rv_isa.specs.declared.operations.Width.TheVariants.{Byte, Half, Word}
 use Rattle.rv_asm.specs.Meaning.{instructions}
 use Rattle.rv_asm.specs.Statement.{is_between}
-use Rattle.rv_asm.specs.declared.{fault.AsmFault.AsmFault, operation.Fields.Fields, operation.Form.Form, operation.Operation.Operation}
+use Rattle.rv_asm.specs.declared.{fault.AsmFault.AsmFault, operation.Fields.Fields}
+use Rattle.rv_asm.specs.declared.{operation.Form.Form, operation.Operation.Operation}
 use Rattle.rv_asm.specs.declared.fault.AsmFault.TheVariants.{OutOfRange}
 use Rattle.rv_asm.specs.declared.operation.Form.TheVariants as form
 use Rattle.rv_asm.specs.declared.operation.Operation.TheVariants as operation

@@ -1,5 +1,6 @@
 -- Where a text ceases to be TOML.
-use Rattle.std.specs.Prelude.{ℕ, zero, suc, ◌+◌, ◌-◌, ◌==◌, ◌&&◌, Bool, List, ◌++◌, codes, get_or, length, nat_lt, take, if◌then◌else◌}
+use Rattle.std.specs.Prelude.{ℕ, zero, suc, ◌+◌, ◌-◌, ◌==◌, ◌&&◌, Bool, List, ◌++◌}
+use Rattle.std.specs.Prelude.{codes, get_or, length, nat_lt, take, if◌then◌else◌}
 use Rattle.rv_describe.specs.Document.{is_toml}
 use Rattle.rv_refusal.specs.Caret.{caret_below}
 use Rattle.rv_refusal.specs.Lines.{line_at, line_feeds}

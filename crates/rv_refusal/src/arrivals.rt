@@ -1,7 +1,10 @@
 ghost use Rattle.std.specs.Prelude.{◌≡◌, ◌++◌, OnOk, [], map, option_map};
 ghost use Rattle.std.specs.Option.{option_map_or};
 ghost use Rattle.rv_job.specs.ReadParts.{parts_in};
-ghost use Rattle.rv_refusal.specs.Arrivals.{arrival_expected, arrival_names, arrivals_lines, entry_line_text, entry_lines, entry_text, field_line, field_lines, field_name, heading_lines, in_entry_text, line_of_field, line_of_list, list_lines, name_hint, part_lines, unknown_line, unknown_lines};
+ghost use Rattle.rv_refusal.specs.Arrivals.{arrival_expected, arrival_names, arrivals_lines, entry_line_text};
+ghost use Rattle.rv_refusal.specs.Arrivals.{entry_lines, entry_text, field_line, field_lines, field_name};
+ghost use Rattle.rv_refusal.specs.Arrivals.{heading_lines, in_entry_text, line_of_field, line_of_list};
+ghost use Rattle.rv_refusal.specs.Arrivals.{list_lines, name_hint, part_lines, unknown_line, unknown_lines};
 ghost use Rattle.rv_refusal.specs.EntryLine.{entry_line};
 
 use crate::caret::add_marked_line;

@@ -5,7 +5,11 @@ ghost use Rattle.rv_asm.specs.Meaning.{fits_width};
 ghost use Rattle.rv_asm.specs.Read.{operand_of, tokens_in};
 ghost use Rattle.rv_asm.specs.Statement.{is_implied};
 ghost use Rattle.rv_refusal.specs.NameSet.{holds};
-ghost use Rattle.rv_refusal.specs.Culprit.{culprit_among, culprit_of, culprit_on, fixed_places, has_unknown_register, holds_register, holds_value, is_culprit, is_last, is_misfit, is_of_operands, is_past_csrs, is_too_wide, is_undefined, is_wrong_value, marked, may_be_out_of_range, operand_of_fault, operands_left, operands_on, unless_empty, wrong_value};
+ghost use Rattle.rv_refusal.specs.Culprit.{culprit_among, culprit_of, culprit_on, fixed_places};
+ghost use Rattle.rv_refusal.specs.Culprit.{has_unknown_register, holds_register, holds_value, is_culprit, is_last};
+ghost use Rattle.rv_refusal.specs.Culprit.{is_misfit, is_of_operands, is_past_csrs, is_too_wide, is_undefined};
+ghost use Rattle.rv_refusal.specs.Culprit.{is_wrong_value, marked, may_be_out_of_range, operand_of_fault};
+ghost use Rattle.rv_refusal.specs.Culprit.{operands_left, operands_on, unless_empty, wrong_value};
 
 use crate::definition::definition_on;
 use crate::name_set::NameSet;

@@ -1,6 +1,8 @@
 ghost use Rattle.std.specs.Prelude.{◌≡◌, ◌&&◌, ◌++◌, ◌==◌, IfOk, OnOk, is_none, map, not, option_map};
 ghost use Rattle.std.specs.{List.list_any, Str.bytes_eq};
-ghost use Rattle.rv_refusal.specs.Described.{description_lines, key_at, key_expected, key_hint, key_line_text, known_expected, line_of_key, table_expected, table_of, unknown_among, unknown_line, unknown_lines, value_lines};
+ghost use Rattle.rv_refusal.specs.Described.{description_lines, key_at, key_expected, key_hint, key_line_text};
+ghost use Rattle.rv_refusal.specs.Described.{known_expected, line_of_key, table_expected, table_of};
+ghost use Rattle.rv_refusal.specs.Described.{unknown_among, unknown_line, unknown_lines, value_lines};
 ghost use Rattle.rv_refusal.specs.KeyLine.{key_line};
 ghost use Rattle.rv_refusal.specs.NameOn.{table_on};
 

@@ -1,6 +1,8 @@
 ghost use Rattle.std.specs.Prelude.{◌≡◌, ◌<◌, ◌≤◌, ◌+◌, ◌^◌, ◌==◌, codes, map, option_map};
 ghost use Rattle.std.specs.{List.slice_split, Str.bytes_eq};
-ghost use Rattle.rv_refusal.specs.EntryLine.{count_after, element_on, entry_line, entry_on, field_names, field_on, first_from, first_sought, heading_names, heading_on, if_passes, if_unknown, key_names, sought_line, sought_on, unknown_on};
+ghost use Rattle.rv_refusal.specs.EntryLine.{count_after, element_on, entry_line, entry_on, field_names, field_on};
+ghost use Rattle.rv_refusal.specs.EntryLine.{first_from, first_sought, heading_names, heading_on, if_passes};
+ghost use Rattle.rv_refusal.specs.EntryLine.{if_unknown, key_names, sought_line, sought_on, unknown_on};
 ghost use Rattle.rv_refusal.specs.HeldName.{name_in};
 
 use crate::key_line::is_among;

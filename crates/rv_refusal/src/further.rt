@@ -1,4 +1,5 @@
-ghost use Rattle.std.specs.Prelude.{◌≡◌, ◌∷◌, [], ◌++◌, ◌+◌, ◌-◌, ◌≤◌, ◌==◌, ◌^◌, None, IfOk, IfSome, OnOk, drop, length, take};
+ghost use Rattle.std.specs.Prelude.{◌≡◌, ◌∷◌, [], ◌++◌, ◌+◌, ◌-◌, ◌≤◌, ◌==◌, ◌^◌};
+ghost use Rattle.std.specs.Prelude.{None, IfOk, IfSome, OnOk, drop, length, take};
 ghost use Rattle.std.specs.List.{flat_map, slice_split};
 ghost use Rattle.std.specs.Result.{result_err};
 ghost use Rattle.rv_asm.specs.Answer.{RefusedBy};

@@ -1,6 +1,7 @@
 ghost use Rattle.std.specs.Prelude.{◌≡◌, ◌+◌, ◌≤◌, ◌==◌, ◌^◌, IfOk, None, length, map, option_copied, option_map};
 ghost use Rattle.std.specs.{List.list_any, List.slice_split, Str.bytes_eq};
-ghost use Rattle.rv_refusal.specs.KeyLine.{first_from, first_named, is_wanted, key_line, named_line, table_after, wanted_line};
+ghost use Rattle.rv_refusal.specs.KeyLine.{first_from, first_named, is_wanted, key_line};
+ghost use Rattle.rv_refusal.specs.KeyLine.{named_line, table_after, wanted_line};
 
 use crate::name_on::{key_on, table_on};
 use crate::text::add_all;

@@ -1,7 +1,8 @@
 ghost use Rattle.std.specs.Prelude.{◌≡◌, ◌≤◌, ◌^◌, length, option_map};
 ghost use Rattle.std.specs.List.{prefix_len};
 ghost use Rattle.rv_refusal.specs.HeldName.{name_in};
-ghost use Rattle.rv_refusal.specs.NameOn.{begins_with, blanks, goes_on_with, is_blank, is_name_byte, key_on, name_after, name_at, table_on};
+ghost use Rattle.rv_refusal.specs.NameOn.{begins_with, blanks, goes_on_with, is_blank};
+ghost use Rattle.rv_refusal.specs.NameOn.{is_name_byte, key_on, name_after, name_at, table_on};
 
 /// A name on a line, and how many bytes stand before it.
 #[derive(Clone, Copy)]

@@ -1,5 +1,6 @@
 ghost use Rattle.std.specs.Prelude.{◌≡◌, ◌++◌, OnOk, codes};
-ghost use Rattle.rv_refusal.specs.Operands.{operand_example, operand_list, operand_word, place_limit, place_word, shape_line, shape_lines};
+ghost use Rattle.rv_refusal.specs.Operands.{operand_example, operand_list, operand_word};
+ghost use Rattle.rv_refusal.specs.Operands.{place_limit, place_word, shape_line, shape_lines};
 
 use crate::text::{add_all, add_number, add_text};
 use rv_asm::{Form, Place};

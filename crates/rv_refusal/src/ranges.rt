@@ -1,6 +1,8 @@
 ghost use Rattle.std.specs.Prelude.{◌≡◌, ◌++◌, OnOk, Some, not, ℤ};
 ghost use Rattle.rv_asm.specs.Meaning.{fits_width};
-ghost use Rattle.rv_refusal.specs.Range.{HasRanges, csr_line, csr_range, data_line, is_outside, operation_line, range_line, range_words, value_line, value_part, value_range, value_words, width_range};
+ghost use Rattle.rv_refusal.specs.Range.{HasRanges, csr_line, csr_range, data_line, is_outside};
+ghost use Rattle.rv_refusal.specs.Range.{operation_line, range_line, range_words, value_line};
+ghost use Rattle.rv_refusal.specs.Range.{value_part, value_range, value_words, width_range};
 
 use crate::text::{add_all, add_text};
 use itoa::Buffer;

@@ -1,10 +1,12 @@
 -- The checkpoints that a list of numbers stands for, after each change of the producers.
-use Rattle.std.proofs.Common.{◌≡◌, ℕ, ◌+◌, ◌<◌, ◌≤◌, Bool, true, false, ◌==◌, if◌then◌else◌, List, [], ◌∷◌, ◌++◌, append-nil, map, filter, refl, ap, sym, ◌∙◌, arith, eq-eqb, ne_eqb, eqb-true, inl, inr}
+use Rattle.std.proofs.Common.{◌≡◌, ℕ, ◌+◌, ◌<◌, ◌≤◌, Bool, true, false, ◌==◌, if◌then◌else◌, List, [], ◌∷◌, ◌++◌}
+use Rattle.std.proofs.Common.{append-nil, map, filter, refl, ap, sym, ◌∙◌, arith, eq-eqb, ne_eqb, eqb-true, inl, inr}
 use Rattle.std.proofs.lemmas.Bool.{cases_lt, lt-ltb, le-ltb, eqb-false}
 use Rattle.std.specs.List.{list_any}
 use Rattle.std.proofs.lemmas.List.Elements.{All-nil}
 use Rattle.rv_isa.specs.Numbered.{below, AreBelow, IsInOrder}
-use Rattle.rv_isa.proofs.Numbered.{below-append, below-stays, below-goes, below-all, below-none, below-stops, below-below, AreBelow-cons, AreBelow-head, AreBelow-tail, IsInOrder-head}
+use Rattle.rv_isa.proofs.Numbered.{below-append, below-stays, below-goes, below-all, below-none, below-stops}
+use Rattle.rv_isa.proofs.Numbered.{below-below, AreBelow-cons, AreBelow-head, AreBelow-tail, IsInOrder-head}
 use Rattle.rv_rename.specs.declared.producer.Producer.{Producer}
 use Rattle.rv_rename.specs.Renaming.{Checkpoint, is_oldest, without_oldest, checkpoint_without_oldest, producers_at}
 use Rattle.rv_rename.specs.Kept.{checkpoint_of}

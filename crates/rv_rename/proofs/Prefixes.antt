@@ -1,5 +1,6 @@
 -- The producers in order of numbers: the last of them, and those up to a number, one by one.
-use Rattle.std.proofs.Common.{◌≡◌, ℕ, ◌+◌, ◌-◌, ◌<◌, ◌≤◌, List, [], ◌∷◌, ◌++◌, length, take, drop, slice_get, slice_index_or, None, Some, zero, suc, refl, ap, sym, ◌∙◌, add-one, arith}
+use Rattle.std.proofs.Common.{◌≡◌, ℕ, ◌+◌, ◌-◌, ◌<◌, ◌≤◌, List, [], ◌∷◌, ◌++◌, length, take, drop, slice_get}
+use Rattle.std.proofs.Common.{slice_index_or, None, Some, zero, suc, refl, ap, sym, ◌∙◌, add-one, arith}
 use Rattle.std.proofs.lemmas.Option.{slice_get-get_or}
 use Rattle.rv_isa.specs.Numbered.{below, AreBelow, IsInOrder}
 use Rattle.rv_isa.proofs.Numbered.{below-stays, below-stops, AreBelow-last, AreBelow-slice_get, IsInOrder-drop}

@@ -1,6 +1,8 @@
-ghost use Rattle.std.specs.Prelude.{◌≡◌, ◌+◌, ◌<◌, ◌≤◌, ◌↔◌, nat_le, IsTrue, IfOk, IfSome, false, [], ◌∷◌, ◌++◌, length, take};
+ghost use Rattle.std.specs.Prelude.{◌≡◌, ◌+◌, ◌<◌, ◌≤◌, ◌↔◌, nat_le, IsTrue, IfOk};
+ghost use Rattle.std.specs.Prelude.{IfSome, false, [], ◌∷◌, ◌++◌, length, take};
 ghost use Rattle.rv_isa.specs.Numbered.{below, AreBelow, IsInOrder};
-ghost use Rattle.rv_rename.specs.Renaming.{empty, youngest, NoneAbove, CanDefine, CanCheckpoint, is_oldest, defined, retired, cleared, checkpointed, restored, without_checkpoint};
+ghost use Rattle.rv_rename.specs.Renaming.{empty, youngest, NoneAbove, CanDefine, CanCheckpoint, is_oldest};
+ghost use Rattle.rv_rename.specs.Renaming.{defined, retired, cleared, checkpointed, restored, without_checkpoint};
 ghost use Rattle.rv_rename.specs.Kept.{IsTable};
 ghost use Rattle.circular_buffer.specs.Buffer.{buffer};
 

@@ -1,6 +1,8 @@
 -- What is counted of a run for a comparison is what the passages of its instructions say, counted as a profile counts them.
-use Rattle.std.proofs.Common.{◌≡◌, ◌∙◌, ℕ, suc, ◌+◌, ◌-◌, ◌^◌, ◌≤◌, ◌<◌, ◌==◌, nat_lt, Bool, true, false, cond, List, [], ◌∷◌, ◌++◌}
-use Rattle.std.proofs.Common.{length, map, filter, take, drop, count_by, Option, Some, None, refl, sym, ap, subst, arith, inl, inr}
+use Rattle.std.proofs.Common.{◌≡◌, ◌∙◌, ℕ, suc, ◌+◌, ◌-◌, ◌^◌, ◌≤◌, ◌<◌, ◌==◌}
+use Rattle.std.proofs.Common.{nat_lt, Bool, true, false, cond, List, [], ◌∷◌, ◌++◌}
+use Rattle.std.proofs.Common.{length, map, filter, take, drop, count_by, Option}
+use Rattle.std.proofs.Common.{Some, None, refl, sym, ap, subst, arith, inl, inr}
 use Rattle.std.proofs.Common.{eq-eqb, ne_eqb, ltb-true, lt-ltb, length-append, length-drop, not, true≢false}
 use Rattle.std.specs.Prelude.{if◌then◌else◌}
 use Rattle.std.proofs.lemmas.Bool.{cases_Bool, false≢true}
@@ -19,7 +21,8 @@ use Rattle.rv_hardware.specs.Guided.{GuidedHardware}
 use Rattle.rv_hardware.specs.Hardware.{Hardware}
 use Rattle.rv_hardware.specs.History.{History, Moment, cycled, ended as no_cycle, reports_of}
 use Rattle.rv_hardware.specs.Lessons.{first_pc}
-use Rattle.rv_hardware.specs.Onward.{Flight, GoOn, IsFetchedBefore, IsFetchedIn, IsLater, fetched_now, flights, goes_on, left_by}
+use Rattle.rv_hardware.specs.Onward.{Flight, GoOn, IsFetchedBefore, IsFetchedIn}
+use Rattle.rv_hardware.specs.Onward.{IsLater, fetched_now, flights, goes_on, left_by}
 use Rattle.rv_hardware.specs.Report.{Report}
 use Rattle.rv_hardware.specs.Run.{Reachable, by_cycle, steps_of}
 use Rattle.rv_hardware.specs.Step.{is_retirement, is_trap}
@@ -34,9 +37,11 @@ use Rattle.rv_passage.specs.Passage.{is_retirement as has_retired, retired_by, s
 use Rattle.rv_passage.specs.Prediction.{differ, is_mispredicted, next_of, prediction_of}
 use Rattle.rv_passage.specs.Producers.{standing_at}
 use Rattle.rv_passage.specs.Shown.{Show, Shows, more, nothing}
-use Rattle.rv_passage.specs.Table.{Passages, after_cycle, next_before, numbered_from, still_open, table_at, with_oldest, with_step, with_steps}
+use Rattle.rv_passage.specs.Table.{Passages, after_cycle, next_before, numbered_from}
+use Rattle.rv_passage.specs.Table.{still_open, table_at, with_oldest, with_step, with_steps}
 use Rattle.rv_hardware.specs.declared.step.Row.{Row}
-use Rattle.rv_passage.specs.Walk.{Standing, passages_after, next_cycle, standing_after, standing_after_all, standing_at as standing_before, walk_from}
+use Rattle.rv_passage.specs.Walk.{Standing, passages_after, next_cycle, standing_after}
+use Rattle.rv_passage.specs.Walk.{standing_after_all, standing_at as standing_before, walk_from}
 use Rattle.rv_passage.specs.declared.passage.{Ending.Ending, Passage.Passage}
 use Rattle.rv_passage.specs.declared.passage.Ending.TheVariants as ending
 use Rattle.rv_passage.proofs.Dropped.{buffers-open}
@@ -48,7 +53,8 @@ use Rattle.rv_counts.specs.Counts.{retired_of}
 use Rattle.rv_counts.specs.Left.{left_after, left_in}
 use Rattle.rv_counts.specs.Passing.{has_left}
 use Rattle.rv_counts.proofs.PlacesOfCycle.{placed}
-use Rattle.rv_report.specs.Speculation.{Speculated, fetched_by, in_flight, oldest, prediction_of_word, speculated_after, speculated_at}
+use Rattle.rv_report.specs.Speculation.{Speculated, fetched_by, in_flight, oldest}
+use Rattle.rv_report.specs.Speculation.{prediction_of_word, speculated_after, speculated_at}
 use Rattle.rv_report.specs.Speculation.{speculated_by, speculated_in, without_all, wrong_in}
 use Rattle.rv_report.specs.Tally.{losses_of, losses_with}
 use Rattle.rv_report.specs.Totals.{counts_of}

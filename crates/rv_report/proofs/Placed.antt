@@ -1,5 +1,6 @@
 -- What becomes of the places of a run that is compared with others: of no cycle, with one cycle more, and at the end.
-use Rattle.std.proofs.Common.{◌≡◌, ◌∙◌, ℕ, ◌≤◌, Bool, true, false, cond, List, [], ◌∷◌, ◌++◌, length, Option, Some, None, refl, sym, ap, subst, arith}
+use Rattle.std.proofs.Common.{◌≡◌, ◌∙◌, ℕ, ◌≤◌, Bool, true, false, cond, List, [], ◌∷◌}
+use Rattle.std.proofs.Common.{◌++◌, length, Option, Some, None, refl, sym, ap, subst, arith}
 use Rattle.std.specs.Prelude.{IfSome}
 use Rattle.std.specs.Option.{option_map}
 use Rattle.rv_isa.specs.declared.{lines.Arrival.Arrival, values.Values.Values}
@@ -16,7 +17,8 @@ use Rattle.rv_watch.proofs.Shown.{moments_counted}
 use Rattle.rv_passage.proofs.EndedRun.{length-reports_of}
 use Rattle.rv_counts.specs.Places.{CanPlace, placed_after, places_of, run_places, with_cycle}
 use Rattle.rv_counts.specs.declared.run_places.RunPlaces.{RunPlaces}
-use Rattle.rv_counts.proofs.PlacesGrow.{add_up-push, add_up_nothing, few_seen, places_counted, places_of-push, places_seen}
+use Rattle.rv_counts.proofs.PlacesGrow.{add_up-push, add_up_nothing, few_seen}
+use Rattle.rv_counts.proofs.PlacesGrow.{places_counted, places_of-push, places_seen}
 use Rattle.rv_counts.proofs.PlacesOfCycle.{ArePlaced, placed}
 use Rattle.rv_report.specs.Shown.{places_shown, shows_places}
 use Rattle.rv_report.specs.Tally.{HasPlaced}

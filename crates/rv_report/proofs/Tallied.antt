@@ -1,5 +1,6 @@
 -- What is counted of a run for a comparison: nothing yet, one cycle more, and the end.
-use Rattle.std.proofs.Common.{◌≡◌, ◌∙◌, ℕ, ◌+◌, ◌-◌, ◌^◌, ◌≤◌, ◌<◌, ◌*◌, Bool, true, false, List, [], ◌∷◌, ◌++◌, length, sym, ap, arith, length-append, Option, Some, None}
+use Rattle.std.proofs.Common.{◌≡◌, ◌∙◌, ℕ, ◌+◌, ◌-◌, ◌^◌, ◌≤◌, ◌<◌, ◌*◌, Bool, true, false, List, []}
+use Rattle.std.proofs.Common.{◌∷◌, ◌++◌, length, sym, ap, arith, length-append, Option, Some, None}
 use Rattle.std.specs.Prelude.{if◌then◌else◌, nat_lt, ◌==◌}
 use Rattle.std.proofs.lemmas.List.Sums.{count_by-le-length}
 use Rattle.rv_isa.specs.declared.{lines.Arrival.Arrival, values.Values.Values}
@@ -16,13 +17,15 @@ use Rattle.rv_hardware.specs.Run.{IsStop, Reachable, steps_of}
 use Rattle.rv_hardware.specs.Step.{is_interrupt, is_retirement, is_trap}
 use Rattle.rv_hardware.specs.declared.step.Step.{Step}
 use Rattle.rv_report.specs.Comparison.{RunsTo}
-use Rattle.rv_report.specs.Events.{AreAtMost, begun, both_events, counted_after, events_between, events_by, events_in, events_of_drain, events_of_steps, events_so_far, happens, no_events}
+use Rattle.rv_report.specs.Events.{AreAtMost, begun, both_events, counted_after, events_between, events_by}
+use Rattle.rv_report.specs.Events.{events_in, events_of_drain, events_of_steps, events_so_far, happens, no_events}
 use Rattle.rv_report.specs.Speculation.{CanCount, Speculated, in_flight, speculated_after, speculated_at, speculated_in}
 use Rattle.rv_report.specs.Tally.{IsTallied, losses_with}
 use Rattle.rv_report.specs.Totals.{HasRoom, both_counts, counts_of, totals_with}
 use Rattle.rv_report.specs.Shown.{places_shown, words_of}
 use Rattle.rv_report.specs.declared.shown.{Columns.Columns, TableOptions.TableOptions}
-use Rattle.rv_report.specs.declared.{events.EventCounter.EventCounter, events.Events.Events, losses.Losses.Losses, totals.StepCounts.StepCounts, totals.Totals.Totals}
+use Rattle.rv_report.specs.declared.{events.EventCounter.EventCounter, events.Events.Events}
+use Rattle.rv_report.specs.declared.{losses.Losses.Losses, totals.StepCounts.StepCounts, totals.Totals.Totals}
 use Rattle.rv_report.specs.declared.events.Event.TheVariants.{Branch, Load, Miss, WriteBack}
 use Rattle.rv_counts.specs.Places.{AddUp, AreLostFor}
 use Rattle.rv_counts.specs.declared.{loads.LoadCosts.LoadCosts, run_places.RunPlaces.RunPlaces}

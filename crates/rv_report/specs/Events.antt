@@ -1,6 +1,7 @@
 -- What a run did that a table counts beside its cycles: branches and jumps, loads, and the accesses of retired stores
 -- to the data cache. What became of an access to the cache is read from its cost.
-use Rattle.std.specs.Prelude.{ℕ, ◌+◌, ◌-◌, ◌≤◌, ◌==◌, ◌&&◌, Bool, false, not, nat_lt, if◌then◌else◌, List, [], ◌∷◌, count_by, Option, Some, None}
+use Rattle.std.specs.Prelude.{ℕ, ◌+◌, ◌-◌, ◌≤◌, ◌==◌, ◌&&◌, Bool, false, not, nat_lt}
+use Rattle.std.specs.Prelude.{if◌then◌else◌, List, [], ◌∷◌, count_by, Option, Some, None}
 use Rattle.rv_counts.specs.Load.{costs_of, is_quick, is_slow}
 use Rattle.rv_counts.specs.declared.loads.LoadCosts.{LoadCosts}
 use Rattle.rv_isa.specs.Instruction.{is_branch_or_jump, is_load}

@@ -1,6 +1,7 @@
 -- What a table shows besides its counts: registers and words of memory as a run left them, and what became of its
 -- places for dispatch.
-use Rattle.std.specs.Prelude.{ℕ, Bool, true, false, ◌||◌, if◌then◌else◌, List, [], ◌++◌, codes, decimal, slice_index, Option, Some, None}
+use Rattle.std.specs.Prelude.{ℕ, Bool, true, false, ◌||◌, if◌then◌else◌, List, []}
+use Rattle.std.specs.Prelude.{◌++◌, codes, decimal, slice_index, Option, Some, None}
 use Rattle.std.specs.List.{flat_map}
 use Rattle.rv_counts.specs.Places.{place_counts, run_places}
 use Rattle.rv_counts.specs.declared.run_places.RunPlaces.{RunPlaces}

@@ -16,7 +16,8 @@ use Rattle.rv_hardware.specs.Run.{steps_of}
 use Rattle.rv_report.specs.Events.{AreAtMost, events_in, events_so_far}
 use Rattle.rv_report.specs.Speculation.{Speculated, speculated_at, speculated_in}
 use Rattle.rv_report.specs.Totals.{counts_of}
-use Rattle.rv_report.specs.declared.{events.EventCounter.EventCounter, losses.Losses.Losses, totals.StepCounts.StepCounts}
+use Rattle.rv_report.specs.declared.{events.EventCounter.EventCounter}
+use Rattle.rv_report.specs.declared.{losses.Losses.Losses, totals.StepCounts.StepCounts}
 
 -- what was fetched, and neither retired nor trapped, nor is in flight at the end, was squashed
 abbrev pub losses_with : Speculated → StepCounts → ℕ → Losses

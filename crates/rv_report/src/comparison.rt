@@ -1,7 +1,9 @@
 ghost use Rattle.std.specs.Prelude.{◌≡◌, [], get_or, map};
 ghost use Rattle.std.specs.List.{enumerate_from, flat_map};
 ghost use Rattle.rv_hardware.specs.Report.{all_stalls};
-ghost use Rattle.rv_report.specs.Comparison.{count_values, event_values, last_cells, loss_values, name_and_stop, name_text, row_of, stall_cell, stall_head, table_head, table_of, table_row};
+ghost use Rattle.rv_report.specs.Comparison.{count_values, event_values, last_cells, loss_values};
+ghost use Rattle.rv_report.specs.Comparison.{name_and_stop, name_text, row_of, stall_cell};
+ghost use Rattle.rv_report.specs.Comparison.{stall_head, table_head, table_of, table_row};
 ghost use Rattle.rv_text.specs.ReadField.{cell_text};
 ghost use Rattle.rv_text.specs.Said.{Says};
 ghost use Rattle.rv_text.specs.Written.{IsWritten};

@@ -2,7 +2,9 @@ ghost use Rattle.std.specs.Prelude.{◌≡◌, ◌≤◌, ◌^◌, count_by, len
 ghost use Rattle.rv_decode.specs.Decodes.{instruction_of};
 ghost use Rattle.rv_hardware.specs.Draining.{drain_end};
 ghost use Rattle.rv_isa.specs.Instruction.{is_branch_or_jump, is_load};
-ghost use Rattle.rv_report.specs.Events.{AreAtMost, begun, both_events, counted_after, events_of_drain, events_of_steps, events_so_far, happens, is_missed, is_of, is_written_back, no_events};
+ghost use Rattle.rv_report.specs.Events.{AreAtMost, begun, both_events, counted_after};
+ghost use Rattle.rv_report.specs.Events.{events_of_drain, events_of_steps, events_so_far};
+ghost use Rattle.rv_report.specs.Events.{happens, is_missed, is_of, is_written_back, no_events};
 
 use rv_counts::LoadCosts;
 use rv_decode::decode;

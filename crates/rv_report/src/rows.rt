@@ -1,5 +1,7 @@
 ghost use Rattle.std.specs.Prelude.{◌≡◌};
-ghost use Rattle.rv_report.specs.Rows.{broadcast_in, entry_text, interrupt_line, issued_in, passage_text, place_text, result_text, row_line, stamp_text, step_line, trace_lines, trap_line, written_text};
+ghost use Rattle.rv_report.specs.Rows.{broadcast_in, entry_text, interrupt_line, issued_in};
+ghost use Rattle.rv_report.specs.Rows.{passage_text, place_text, result_text, row_line, stamp_text};
+ghost use Rattle.rv_report.specs.Rows.{step_line, trace_lines, trap_line, written_text};
 ghost use Rattle.rv_text.specs.Said.{Says};
 
 use itoa::Buffer;

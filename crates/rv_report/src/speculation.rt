@@ -1,11 +1,13 @@
-ghost use Rattle.std.specs.Prelude.{◌≡◌, ◌+◌, ◌≤◌, ◌<◌, [], ◌∷◌, ◌++◌, ◌==◌, if◌then◌else◌, Some, drop, length, map, slice_get, take, vec_capacity, IfOk};
+ghost use Rattle.std.specs.Prelude.{◌≡◌, ◌+◌, ◌≤◌, ◌<◌, [], ◌∷◌, ◌++◌, ◌==◌, if◌then◌else◌, Some};
+ghost use Rattle.std.specs.Prelude.{drop, length, map, slice_get, take, vec_capacity, IfOk};
 ghost use Rattle.circular_buffer.specs.Buffer.{buffer};
 ghost use Rattle.rv_hardware.specs.declared.step.Row.{Row as RowOf};
 ghost use Rattle.rv_hardware.specs.declared.step.Step.TheVariants.{Retired};
 ghost use Rattle.rv_passage.specs.Passage.{in_buffers};
 ghost use Rattle.rv_passage.specs.Prediction.{prediction_of};
 ghost use Rattle.rv_passage.specs.Table.{AreShort, table_from};
-ghost use Rattle.rv_report.specs.Speculation.{CanCount, fetched_by, is_wrong, prediction_of_word, speculated_after, speculated_from, without_all, without_ended, wrong_in};
+ghost use Rattle.rv_report.specs.Speculation.{CanCount, fetched_by, is_wrong, prediction_of_word, speculated_after};
+ghost use Rattle.rv_report.specs.Speculation.{speculated_from, without_all, without_ended, wrong_in};
 
 use circular_buffer::HeapCircularBuffer;
 use rv_front::{Fetched, Front};

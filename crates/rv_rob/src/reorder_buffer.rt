@@ -1,9 +1,11 @@
-ghost use Rattle.std.specs.Prelude.{◌≡◌, ◌+◌, ◌-◌, ◌<◌, ◌≤◌, ◌^◌, ◌↔◌, nat_lt, nat_le, if◌then◌else◌, IsTrue, IfOk, List, [], ◌∷◌, ◌++◌, length, slice_get, option_copied};
+ghost use Rattle.std.specs.Prelude.{◌≡◌, ◌+◌, ◌-◌, ◌<◌, ◌≤◌, ◌^◌, ◌↔◌, nat_lt, nat_le, if◌then◌else◌};
+ghost use Rattle.std.specs.Prelude.{IsTrue, IfOk, List, [], ◌∷◌, ◌++◌, length, slice_get, option_copied};
 ghost use Rattle.std.specs.Fn.{FnOnceReturnsAtMut};
 ghost use Rattle.circular_buffer.specs.Buffer.{buffer};
 ghost use Rattle.rv_rob.specs.declared.entry.Entry.{Entry};
 ghost use Rattle.rv_rob.specs.Entry.{started, broadcast_in, predicting};
-ghost use Rattle.rv_rob.specs.ReorderBuffer.{empty, next_number, youngest, entry_of, pushed, changed, cut_from, head_retired};
+ghost use Rattle.rv_rob.specs.ReorderBuffer.{empty, next_number, youngest, entry_of};
+ghost use Rattle.rv_rob.specs.ReorderBuffer.{pushed, changed, cut_from, head_retired};
 
 use crate::entry::Entry;
 use circular_buffer::HeapCircularBuffer;

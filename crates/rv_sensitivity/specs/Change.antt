@@ -4,11 +4,16 @@ use Rattle.rv_isa.specs.Choice.{is_same_predictor}
 use Rattle.rv_isa.specs.Key.{number_of}
 use Rattle.rv_isa.specs.PerKind.{at_kind, with_kind}
 use Rattle.rv_isa.specs.declared.{keys.Key.Key, keys.KindKey.KindKey, keys.NumberKey.NumberKey, operations.Kind.Kind}
-use Rattle.rv_isa.specs.declared.values.{KindValues.KindValues, PredictorKind.PredictorKind as Prediction, Recovery.Recovery as Mending, Values.Values}
+use Rattle.rv_isa.specs.declared.values.{KindValues.KindValues, PredictorKind.PredictorKind as Prediction}
+use Rattle.rv_isa.specs.declared.values.{Recovery.Recovery as Mending, Values.Values}
 use Rattle.rv_isa.specs.declared.keys.Key.TheVariants as key
 use Rattle.rv_isa.specs.declared.values.PredictorKind.TheVariants.{Bimodal}
 use Rattle.rv_isa.specs.declared.keys.KindKey.TheVariants.{Stations, Units, Latency}
-use Rattle.rv_isa.specs.declared.keys.NumberKey.TheVariants.{RamBase, RamSize, RomBytes, FetchWidth, DispatchWidth, CommitWidth, BusWidth, FetchBuffer, Rob, StoreQueue, Forward, OfKind, CacheSets, CacheWays, CacheLine, CacheHit, CacheMiss, CacheWriteBack, PredictorEntries, ReportDumpAddress, ReportDumpWords}
+use Rattle.rv_isa.specs.declared.keys.NumberKey.TheVariants.{RamBase, RamSize, RomBytes, FetchWidth, DispatchWidth}
+use Rattle.rv_isa.specs.declared.keys.NumberKey.TheVariants.{CommitWidth, BusWidth, FetchBuffer, Rob, StoreQueue}
+use Rattle.rv_isa.specs.declared.keys.NumberKey.TheVariants.{Forward, OfKind, CacheSets, CacheWays, CacheLine}
+use Rattle.rv_isa.specs.declared.keys.NumberKey.TheVariants.{CacheHit, CacheMiss, CacheWriteBack, PredictorEntries}
+use Rattle.rv_isa.specs.declared.keys.NumberKey.TheVariants.{ReportDumpAddress, ReportDumpWords}
 use Rattle.rv_isa.specs.declared.values.Recovery.TheVariants.{Commit, Early}
 use Rattle.rv_sensitivity.specs.declared.change.Change.{Change}
 use Rattle.rv_sensitivity.specs.declared.change.Change.TheVariants.{Number, Recovery, Pipelined, Predictor, Widths}

@@ -1,12 +1,15 @@
 -- A user's own values for keys of a description, and the changes that they make.
-use Rattle.std.specs.Prelude.{ℕ, Bool, true, false, ◌&&◌, if◌then◌else◌, List, [], ◌∷◌, Option, Some, None, option_and_then}
+use Rattle.std.specs.Prelude.{ℕ, Bool, true, false, ◌&&◌, if◌then◌else◌, List}
+use Rattle.std.specs.Prelude.{[], ◌∷◌, Option, Some, None, option_and_then}
 use Rattle.std.specs.List.{filter_map, slice_get}
 use Rattle.rv_isa.specs.Bounds.{takes}
 use Rattle.rv_isa.specs.Key.{order, row_of}
 use Rattle.rv_isa.specs.declared.{keys.Key.Key, keys.NumberKey.NumberKey}
 use Rattle.rv_isa.specs.declared.keys.Key.TheVariants as key
-use Rattle.rv_isa.specs.declared.keys.NumberKey.TheVariants.{RamBase, RamSize, RomBytes, ReportDumpAddress, ReportDumpWords}
-use Rattle.rv_sensitivity.specs.declared.{change.Change.Change, setting.{KeyValue.KeyValue, Setting.Setting, Settings.Settings}}
+use Rattle.rv_isa.specs.declared.keys.NumberKey.TheVariants.{RamBase, RamSize, RomBytes}
+use Rattle.rv_isa.specs.declared.keys.NumberKey.TheVariants.{ReportDumpAddress, ReportDumpWords}
+use Rattle.rv_sensitivity.specs.declared.{change.Change.Change}
+use Rattle.rv_sensitivity.specs.declared.{setting.{KeyValue.KeyValue, Setting.Setting, Settings.Settings}}
 use Rattle.rv_sensitivity.specs.declared.change.Change.TheVariants as change
 use Rattle.rv_sensitivity.specs.declared.setting.KeyValue.TheVariants.{Number, Truth, Recovery, Predictor}
 

@@ -5,13 +5,17 @@ use Rattle.rv_isa.specs.declared.{bounds.Bounds.Bounds, keys.NumberKey.NumberKey
 use Rattle.rv_isa.specs.declared.values.{Recovery.Recovery as Mending, Values.Values}
 use Rattle.rv_isa.specs.declared.bounds.Bounds.TheVariants.{Whole, Pages, Words, Powers, Front}
 use Rattle.rv_isa.specs.declared.keys.KindKey.TheVariants.{Stations, Units, Latency}
-use Rattle.rv_isa.specs.declared.keys.NumberKey.TheVariants.{FetchWidth, DispatchWidth, CommitWidth, BusWidth, FetchBuffer, Rob, StoreQueue, Forward, OfKind, CacheSets, CacheWays, CacheLine, CacheHit, CacheMiss, CacheWriteBack, PredictorEntries}
+use Rattle.rv_isa.specs.declared.keys.NumberKey.TheVariants.{FetchWidth, DispatchWidth, CommitWidth, BusWidth}
+use Rattle.rv_isa.specs.declared.keys.NumberKey.TheVariants.{FetchBuffer, Rob, StoreQueue, Forward, OfKind}
+use Rattle.rv_isa.specs.declared.keys.NumberKey.TheVariants.{CacheSets, CacheWays, CacheLine, CacheHit}
+use Rattle.rv_isa.specs.declared.keys.NumberKey.TheVariants.{CacheMiss, CacheWriteBack, PredictorEntries}
 use Rattle.rv_isa.specs.declared.operations.Kind.TheVariants.{Alu, Mul, Div, Mem}
 use Rattle.rv_isa.specs.declared.values.PredictorKind.TheVariants.{NotTaken, BackwardTaken, Bimodal}
 use Rattle.rv_isa.specs.declared.values.Recovery.TheVariants.{Commit, Early}
 use Rattle.rv_sensitivity.specs.declared.{change.{Change.Change, Widths.Widths}, trials.Trial.Trial}
 use Rattle.rv_sensitivity.specs.declared.change.Change.TheVariants as change
-use Rattle.rv_sensitivity.specs.declared.trials.Trial.TheVariants.{Doubled, Halved, DoubledWidths, OtherRecovery, Pipelined, Predictor}
+use Rattle.rv_sensitivity.specs.declared.trials.Trial.TheVariants.{Doubled, Halved, DoubledWidths}
+use Rattle.rv_sensitivity.specs.declared.trials.Trial.TheVariants.{OtherRecovery, Pipelined, Predictor}
 
 -- each size and width is doubled, each latency and cost halved, and each other choice made
 unfoldable pub trials : List Trial

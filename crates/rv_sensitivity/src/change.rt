@@ -1,6 +1,7 @@
 ghost use Rattle.std.specs.Prelude.{◌≡◌};
 ghost use Rattle.rv_isa.specs.PerKind.{with_kind};
-ghost use Rattle.rv_sensitivity.specs.Change.{changed, has_entries, is_new, is_new_recovery, is_new_truth, is_used, with_kind_number, with_number, with_pipelined};
+ghost use Rattle.rv_sensitivity.specs.Change.{changed, has_entries, is_new, is_new_recovery, is_new_truth};
+ghost use Rattle.rv_sensitivity.specs.Change.{is_used, with_kind_number, with_number, with_pipelined};
 
 use rv_isa::{
     CacheValues, Key, Kind, KindKey, KindValues, NumberKey, PerKind, PredictorKind,

@@ -1,5 +1,6 @@
 -- What the cycles of a run are on account of, with one cycle more.
-use Rattle.std.proofs.Common.{◌≡◌, ◌∙◌, ℕ, suc, ◌+◌, List, [], ◌∷◌, ◌++◌, length, count_by, cond, Bool, true, false, Option, None, refl, sym, ap, arith}
+use Rattle.std.proofs.Common.{◌≡◌, ◌∙◌, ℕ, suc, ◌+◌, List, [], ◌∷◌, ◌++◌, length, count_by}
+use Rattle.std.proofs.Common.{cond, Bool, true, false, Option, None, refl, sym, ap, arith}
 use Rattle.std.proofs.lemmas.List.Sums.{sum_by-append}
 use Rattle.rv_isa.specs.declared.lines.Arrival.{Arrival}
 use Rattle.rv_isa.specs.declared.values.Values.{Values}
@@ -11,7 +12,8 @@ use Rattle.rv_passage.specs.Walk.{FollowedCycle, Standing, next_cycle, standing_
 use Rattle.rv_passage.specs.declared.passage.Passage.{Passage}
 use Rattle.rv_passage.proofs.Walk.{last_cycle, walk-push}
 use Rattle.rv_counts.specs.Counts.{one_more}
-use Rattle.rv_sentences.specs.Head.{account_of, accounts_from, accounts_of, last_flusher, flusher_in, flusher_of, is_idle, itself}
+use Rattle.rv_sentences.specs.Head.{account_of, accounts_from, accounts_of, last_flusher}
+use Rattle.rv_sentences.specs.Head.{flusher_in, flusher_of, is_idle, itself}
 use Rattle.rv_sentences.specs.WordCount.{count_at, with_one}
 use Rattle.rv_sentences.specs.WordNotes.{notes_of}
 use Rattle.rv_sentences.proofs.CountsGrow.{with_last_at}

@@ -1,9 +1,11 @@
 -- The instructions from a place on stay as those after the older ones do.
-use Rattle.std.proofs.Common.{◌≡◌, ◌∙◌, ℕ, ◌+◌, ◌<◌, ◌&&◌, Bool, true, false, not, List, [], ◌∷◌, ◌++◌, length, take, drop, get_or, Option, refl, ap, sym}
+use Rattle.std.proofs.Common.{◌≡◌, ◌∙◌, ℕ, ◌+◌, ◌<◌, ◌&&◌, Bool, true, false, not, List, []}
+use Rattle.std.proofs.Common.{◌∷◌, ◌++◌, length, take, drop, get_or, Option, refl, ap, sym}
 use Rattle.std.specs.Option.{option_or}
 use Rattle.std.proofs.lemmas.List.{drop_more, take_more}
 use Rattle.rv_passage.specs.declared.passage.Passage.{Passage}
-use Rattle.rv_sentences.specs.Stay.{awaited_word, have_addresses, lacks_address, oldest_awaited, stay_in, stays_among, with_stay, with_stays}
+use Rattle.rv_sentences.specs.Stay.{awaited_word, have_addresses, lacks_address, oldest_awaited}
+use Rattle.rv_sentences.specs.Stay.{stay_in, stays_among, with_stay, with_stays}
 use Rattle.rv_sentences.specs.declared.stays.Stays.{Stays}
 use Rattle.rv_sentences.proofs.Options.{option_or-assoc}
 

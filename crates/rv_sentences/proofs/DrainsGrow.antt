@@ -6,7 +6,9 @@ use Rattle.rv_hardware.specs.Hardware.{Hardware}
 use Rattle.rv_hardware.specs.History.{History, Moment, cycled, ended}
 use Rattle.rv_counts.specs.declared.loads.LoadCosts.{LoadCosts}
 use Rattle.rv_sentences.specs.Drain.{drain_in}
-use Rattle.rv_sentences.specs.Drained.{CanCountStore, drained_from, drained_of, hit_at, miss_at, oldest_drained, still_waiting, store_counts, waiting_from, waiting_in, waiting_of, with_drained, write_back_at}
+use Rattle.rv_sentences.specs.Drained.{CanCountStore, drained_from, drained_of, hit_at, miss_at}
+use Rattle.rv_sentences.specs.Drained.{oldest_drained, still_waiting, store_counts, waiting_from}
+use Rattle.rv_sentences.specs.Drained.{waiting_in, waiting_of, with_drained, write_back_at}
 use Rattle.rv_sentences.specs.declared.drained.Drained.{Drained}
 use Rattle.rv_sentences.proofs.CountSums.{counted_within}
 use Rattle.rv_sentences.proofs.CountsGrow.{with_last_at}

@@ -1,5 +1,7 @@
 -- What is kept of some exceptions, with one more.
-use Rattle.std.proofs.Common.{◌≡◌, ◌∙◌, ℕ, zero, suc, ◌+◌, ◌≤◌, ◌<◌, ◌^◌, ◌==◌, ◌&&◌, ◌||◌, Bool, true, false, nat_le, cond, ⊎_elim, le-leb, List, [], ◌∷◌, ◌++◌, length, map, take, slice_index_or, refl, ap, sym, arith, append-nil, length-append}
+use Rattle.std.proofs.Common.{◌≡◌, ◌∙◌, ℕ, zero, suc, ◌+◌, ◌≤◌, ◌<◌, ◌^◌, ◌==◌, ◌&&◌, ◌||◌, Bool, true}
+use Rattle.std.proofs.Common.{false, nat_le, cond, ⊎_elim, le-leb, List, [], ◌∷◌, ◌++◌, length, map}
+use Rattle.std.proofs.Common.{take, slice_index_or, refl, ap, sym, arith, append-nil, length-append}
 use Rattle.std.proofs.lemmas.Bool.{eqb-true, lt-leb}
 use Rattle.std.proofs.lemmas.List.{length-map, length-take-le, take-append-le, take-map, take_all}
 use Rattle.std.proofs.lemmas.List.Elements.{All-take, filter-append}
@@ -7,7 +9,8 @@ use Rattle.std.proofs.lemmas.List.Sums.{count_by-le-length, length-filter}
 use Rattle.std.proofs.str.Laws.{order}
 use Rattle.std.specs.List.{filter, list_any}
 use Rattle.rv_isa.specs.Cause.{code_of}
-use Rattle.rv_sentences.specs.Kinds.{IsCountable, belongs, is_alike, kept_of, kept_with, kind_with, kinds_after, kinds_with}
+use Rattle.rv_sentences.specs.Kinds.{IsCountable, belongs, is_alike, kept_of}
+use Rattle.rv_sentences.specs.Kinds.{kept_with, kind_with, kinds_after, kinds_with}
 use Rattle.rv_sentences.specs.Series.{continued, series_from}
 use Rattle.rv_sentences.specs.declared.exception.Exception.{Exception}
 use Rattle.rv_sentences.specs.declared.series.Series.{Series}

@@ -1,5 +1,7 @@
 -- What became of the instructions in each word, as more leave the hardware.
-use Rattle.std.proofs.Common.{◌≡◌, ◌∙◌, ℕ, zero, suc, ◌+◌, ◌-◌, ◌^◌, ◌<◌, ◌≤◌, nat_lt, Bool, true, false, List, [], ◌∷◌, ◌++◌, length, filter, map, Option, Some, None, cond, refl, ap, sym, subst, arith, eq-eqb, ne_eqb}
+use Rattle.std.proofs.Common.{◌≡◌, ◌∙◌, ℕ, zero, suc, ◌+◌, ◌-◌, ◌^◌, ◌<◌, ◌≤◌, nat_lt, Bool}
+use Rattle.std.proofs.Common.{true, false, List, [], ◌∷◌, ◌++◌, length, filter, map, Option}
+use Rattle.std.proofs.Common.{Some, None, cond, refl, ap, sym, subst, arith, eq-eqb, ne_eqb}
 use Rattle.std.specs.Prelude.{IfSome, slice_set}
 use Rattle.std.specs.List.{range_with_len, slice_get}
 use Rattle.std.proofs.lemmas.List.Sums.{count_by-le-length}
@@ -14,7 +16,8 @@ use Rattle.rv_counts.proofs.Changes.{each-by}
 use Rattle.rv_counts.proofs.CountsMore.{count_by-cons}
 use Rattle.rv_counts.proofs.Rooms.{filter-le, one_more-within}
 use Rattle.rv_sentences.specs.Load.{retired_load_cost}
-use Rattle.rv_sentences.specs.Outcome.{CanCount, CanTake, IsWithin, is_forwarded, is_in, is_write_back, outcomes_at, outcomes_of, outcomes_with, with_passages}
+use Rattle.rv_sentences.specs.Outcome.{CanCount, CanTake, IsWithin, is_forwarded, is_in, is_write_back}
+use Rattle.rv_sentences.specs.Outcome.{outcomes_at, outcomes_of, outcomes_with, with_passages}
 use Rattle.rv_sentences.specs.WordNotes.{Notes, changed, note_at, notes_of, with_change}
 use Rattle.rv_sentences.specs.declared.outcomes.Outcomes.{Outcomes}
 use Rattle.rv_sentences.proofs.WordTable.{change_one}

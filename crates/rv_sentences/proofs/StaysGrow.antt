@@ -1,5 +1,6 @@
 -- Why instructions stay in flight, as more cycles come.
-use Rattle.std.proofs.Common.{◌≡◌, ◌∙◌, ℕ, suc, ◌+◌, ◌≤◌, ◌&&◌, Bool, true, false, List, [], ◌∷◌, ◌++◌, length, count_by, cond, map, not, Option, Some, None, is_some, refl, ap, sym, arith, append-nil}
+use Rattle.std.proofs.Common.{◌≡◌, ◌∙◌, ℕ, suc, ◌+◌, ◌≤◌, ◌&&◌, Bool, true, false, List, [], ◌∷◌, ◌++◌, length}
+use Rattle.std.proofs.Common.{count_by, cond, map, not, Option, Some, None, is_some, refl, ap, sym, arith, append-nil}
 use Rattle.std.specs.List.{flat_map}
 use Rattle.std.proofs.lemmas.List.{length-map, map-append}
 use Rattle.std.proofs.lemmas.List.Concat.{flat_map-append, flat_map-cons}
@@ -16,7 +17,9 @@ use Rattle.rv_passage.specs.Table.{still_open}
 use Rattle.rv_passage.specs.Walk.{FollowedCycle, standing_at, walk}
 use Rattle.rv_passage.specs.declared.passage.Passage.{Passage}
 use Rattle.rv_passage.proofs.Walk.{last_cycle, walk-push}
-use Rattle.rv_sentences.specs.Stay.{StaysAddUp, all_stays, awaited_in, awaited_of, dispatched_stay, lacks_address, no_stays, is_staying, oldest_awaited, stay_in, stays_among, stays_in, stays_of, staying_in, with_reason, with_stay, with_stays}
+use Rattle.rv_sentences.specs.Stay.{StaysAddUp, all_stays, awaited_in, awaited_of, dispatched_stay}
+use Rattle.rv_sentences.specs.Stay.{lacks_address, no_stays, is_staying, oldest_awaited, stay_in, stays_among}
+use Rattle.rv_sentences.specs.Stay.{stays_in, stays_of, staying_in, with_reason, with_stay, with_stays}
 use Rattle.rv_sentences.specs.Head.{itself}
 use Rattle.rv_sentences.specs.WordCount.{count_at, with_one}
 use Rattle.rv_sentences.specs.WordNotes.{notes_of}

@@ -1,5 +1,6 @@
 -- What is kept of the words is a function of their numbers, and a change at one word changes it there alone.
-use Rattle.std.proofs.Common.{◌≡◌, ◌∙◌, ℕ, zero, suc, ◌+◌, ◌-◌, ◌<◌, ◌≤◌, nat_lt, Bool, true, false, ◌∷◌, map, Some, None, refl, ap, sym, arith}
+use Rattle.std.proofs.Common.{◌≡◌, ◌∙◌, ℕ, zero, suc, ◌+◌, ◌-◌, ◌<◌, ◌≤◌, nat_lt, Bool}
+use Rattle.std.proofs.Common.{true, false, ◌∷◌, map, Some, None, refl, ap, sym, arith}
 use Rattle.std.specs.Prelude.{replicate, slice_set}
 use Rattle.std.specs.List.{range_with_len, slice_get}
 use Rattle.std.proofs.lemmas.Bool.{ltb-true, ltb-false}

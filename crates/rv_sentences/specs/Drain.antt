@@ -1,5 +1,6 @@
 -- The drains of a run by what they cost: the accesses by which retired stores go into the cache. One is counted when it begins.
-use Rattle.std.specs.Prelude.{ℕ, ◌-◌, ◌==◌, Bool, false, if◌then◌else◌, List, [], ◌∷◌, ◌++◌, codes, length, Option, Some, None, count_by}
+use Rattle.std.specs.Prelude.{ℕ, ◌-◌, ◌==◌, Bool, false, if◌then◌else◌, List, []}
+use Rattle.std.specs.Prelude.{◌∷◌, ◌++◌, codes, length, Option, Some, None, count_by}
 use Rattle.std.specs.Option.{option_to_list}
 use Rattle.std.specs.FinSet as set
 use Rattle.rv_isa.specs.Arrivals.{lines_at}

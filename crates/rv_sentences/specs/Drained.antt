@@ -1,6 +1,7 @@
 -- The drains of a run, store by store: stores drain in the order in which they retired. The store queue has at most 64
 -- places, and a run begins where no retired store waits, as one from the reset does.
-use Rattle.std.specs.Prelude.{ℕ, ◌+◌, ◌^◌, ◌<◌, ◌==◌, nat_lt, if◌then◌else◌, List, [], ◌∷◌, ◌++◌, drop, length, sum, Option, Some, None}
+use Rattle.std.specs.Prelude.{ℕ, ◌+◌, ◌^◌, ◌<◌, ◌==◌, nat_lt, if◌then◌else◌, List}
+use Rattle.std.specs.Prelude.{[], ◌∷◌, ◌++◌, drop, length, sum, Option, Some, None}
 use Rattle.rv_isa.specs.declared.{lines.Arrival.Arrival, values.Values.Values}
 use Rattle.rv_memory.specs.Memory.{word_of}
 use Rattle.rv_hardware.specs.Hardware.{Hardware}
@@ -10,7 +11,8 @@ use Rattle.rv_sentences.specs.Drain.{drain_in}
 use Rattle.rv_sentences.specs.LastStore.{stores_in}
 use Rattle.rv_sentences.specs.WordCount.{count_at, count_in, with_one}
 use Rattle.rv_sentences.specs.WordNotes.{notes_of}
-use Rattle.rv_sentences.specs.declared.{drained.Drained.Drained, outcomes.Outcomes.Outcomes, store_counts.StoreCounts.StoreCounts, stored.Stored.Stored}
+use Rattle.rv_sentences.specs.declared.{drained.Drained.Drained, outcomes.Outcomes.Outcomes}
+use Rattle.rv_sentences.specs.declared.{store_counts.StoreCounts.StoreCounts, stored.Stored.Stored}
 
 -- the words of the retired stores that wait for their drains, oldest first, with one more
 abbrev pub entered : ℕ → List ℕ → List ℕ

@@ -3,7 +3,10 @@ use Rattle.std.specs.Prelude.{ℕ, ◌/◌, ◌==◌, if◌then◌else◌, List,
 use Rattle.std.specs.List.{filter_map, flat_map}
 use Rattle.std.specs.Option.{option_or}
 use Rattle.rv_isa.specs.declared.causes.Cause.{Cause}
-use Rattle.rv_isa.specs.declared.causes.Cause.TheVariants.{InstructionAddressMisaligned, InstructionAccessFault, IllegalInstruction, Breakpoint, LoadAddressMisaligned, LoadAccessFault, StoreAddressMisaligned, StoreAccessFault, EnvironmentCall}
+use Rattle.rv_isa.specs.declared.causes.Cause.TheVariants.{InstructionAddressMisaligned, InstructionAccessFault}
+use Rattle.rv_isa.specs.declared.causes.Cause.TheVariants.{IllegalInstruction, Breakpoint, LoadAddressMisaligned}
+use Rattle.rv_isa.specs.declared.causes.Cause.TheVariants.{LoadAccessFault, StoreAddressMisaligned}
+use Rattle.rv_isa.specs.declared.causes.Cause.TheVariants.{StoreAccessFault, EnvironmentCall}
 use Rattle.rv_hardware.specs.Hardware.{Hardware}
 use Rattle.rv_hardware.specs.Step.{is_breakpoint_cause}
 use Rattle.rv_hardware.specs.declared.step.Step.{Step}

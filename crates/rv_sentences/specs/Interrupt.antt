@@ -1,5 +1,6 @@
 -- The interrupts of a run, by their lines.
-use Rattle.std.specs.Prelude.{ℕ, ◌+◌, ◌<◌, ◌^◌, ◌==◌, if◌then◌else◌, List, [], ◌∷◌, ◌++◌, codes, decimal, Option, Some, None, IfSome}
+use Rattle.std.specs.Prelude.{ℕ, ◌+◌, ◌<◌, ◌^◌, ◌==◌, if◌then◌else◌, List, [], ◌∷◌}
+use Rattle.std.specs.Prelude.{◌++◌, codes, decimal, Option, Some, None, IfSome}
 use Rattle.std.specs.List.{filter, filter_map}
 use Rattle.std.specs.Option.{option_or}
 use Rattle.rv_arch.specs.Trap.{interrupt_cause}
@@ -9,7 +10,8 @@ use Rattle.rv_hardware.specs.declared.step.Step.TheVariants.{Retired, Trap, Inte
 use Rattle.rv_source.specs.Listing.{Listed}
 use Rattle.rv_source.specs.PlaceText.{place_text}
 use Rattle.rv_sentences.specs.Series.{series_of, series_with}
-use Rattle.rv_sentences.specs.declared.{interruption.Interruption.Interruption, interrupts.Interrupts.Interrupts, series.Series.Series}
+use Rattle.rv_sentences.specs.declared.{interruption.Interruption.Interruption}
+use Rattle.rv_sentences.specs.declared.{interrupts.Interrupts.Interrupts, series.Series.Series}
 
 -- the interrupt of a step
 abbrev pub interruption_of : Step → Option Interruption

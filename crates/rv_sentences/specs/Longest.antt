@@ -9,7 +9,8 @@ use Rattle.rv_sentences.specs.OutcomeText.{loads_aside, stores_aside}
 use Rattle.rv_sentences.specs.GreatestLines.{greatest_lines, line_counts}
 use Rattle.rv_sentences.specs.WordCount.{count_in}
 use Rattle.rv_sentences.specs.WordNotes.{Notes, note_at}
-use Rattle.rv_sentences.specs.declared.{outcomes.Outcomes.Outcomes, counted_line.CountedLine.CountedLine, store_counts.StoreCounts.StoreCounts}
+use Rattle.rv_sentences.specs.declared.{outcomes.Outcomes.Outcomes, counted_line.CountedLine.CountedLine}
+use Rattle.rv_sentences.specs.declared.{store_counts.StoreCounts.StoreCounts}
 
 -- so many branches and jumps that retired, in brackets, and how many of them were mispredicted
 unfoldable pub counted_branches : ℕ → ℕ → List ℕ

@@ -1,5 +1,6 @@
 -- The loads that retired, word by word.
-use Rattle.std.specs.Prelude.{ℕ, ◌+◌, ◌^◌, ◌≤◌, ◌<◌, ◌==◌, ◌&&◌, Bool, false, not, List, [], ◌∷◌, count_by, filter, Option, Some, None}
+use Rattle.std.specs.Prelude.{ℕ, ◌+◌, ◌^◌, ◌≤◌, ◌<◌, ◌==◌, ◌&&◌, Bool, false, not}
+use Rattle.std.specs.Prelude.{List, [], ◌∷◌, count_by, filter, Option, Some, None}
 use Rattle.rv_cache.specs.WriteBack.{Each}
 use Rattle.rv_memory.specs.Memory.{word_of}
 use Rattle.rv_passage.specs.declared.passage.Passage.{Passage}

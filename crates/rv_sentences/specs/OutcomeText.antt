@@ -1,5 +1,6 @@
 -- What loads or stores cost, in words.
-use Rattle.std.specs.Prelude.{ℕ, ◌==◌, ◌&&◌, Bool, not, if◌then◌else◌, List, [], ◌++◌, codes, decimal, Option, Some, None}
+use Rattle.std.specs.Prelude.{ℕ, ◌==◌, ◌&&◌, Bool, not, if◌then◌else◌, List}
+use Rattle.std.specs.Prelude.{[], ◌++◌, codes, decimal, Option, Some, None}
 use Rattle.rv_sentences.specs.declared.outcomes.Outcomes.{Outcomes}
 
 -- there is one

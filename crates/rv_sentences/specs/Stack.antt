@@ -1,5 +1,6 @@
 -- Where the cycles of a run went.
-use Rattle.std.specs.Prelude.{ℕ, ◌+◌, ◌*◌, ◌/◌, ◌%◌, ◌==◌, if◌then◌else◌, List, [], ◌++◌, codes, decimal, length, take, drop}
+use Rattle.std.specs.Prelude.{ℕ, ◌+◌, ◌*◌, ◌/◌, ◌%◌, ◌==◌, if◌then◌else◌, List}
+use Rattle.std.specs.Prelude.{[], ◌++◌, codes, decimal, length, take, drop}
 use Rattle.std.specs.List.{flat_map}
 use Rattle.rv_hardware.specs.Report.{all_stalls, count_of, stall_name}
 use Rattle.rv_hardware.specs.declared.report.{Stall.Stall, StallCounts.StallCounts}

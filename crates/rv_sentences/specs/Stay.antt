@@ -4,7 +4,8 @@
 -- and its retirement. By its stamps and the units alone: as nothing waits that has what it needs, an instruction that
 -- has its operands and was not issued waits for a unit, and a load that has a unit besides, and the addresses, waits
 -- for the port.
-use Rattle.std.specs.Prelude.{◌≡◌, ℕ, ◌+◌, ◌&&◌, nat_lt, Bool, true, false, not, if◌then◌else◌, List, [], ◌∷◌, count_by, drop, map, take, Option, Some, None, is_some}
+use Rattle.std.specs.Prelude.{◌≡◌, ℕ, ◌+◌, ◌&&◌, nat_lt, Bool, true, false, not, if◌then◌else◌}
+use Rattle.std.specs.Prelude.{List, [], ◌∷◌, count_by, drop, map, take, Option, Some, None, is_some}
 use Rattle.std.specs.List.{flat_map}
 use Rattle.std.specs.Option.{option_or}
 use Rattle.rv_isa.specs.Instruction.{is_load, is_store, kind_of_word}
@@ -19,7 +20,8 @@ use Rattle.rv_passage.specs.Passage.{is_in_flight}
 use Rattle.rv_passage.specs.Result.{waits_for_bus}
 use Rattle.rv_passage.specs.Table.{still_open}
 use Rattle.rv_passage.specs.Walk.{FollowedCycle, walk}
-use Rattle.rv_passage.specs.declared.{passage.Passage.Passage, producers.Producer.Producer, producers.Producers.Producers}
+use Rattle.rv_passage.specs.declared.{passage.Passage.Passage, producers.Producer.Producer}
+use Rattle.rv_passage.specs.declared.{producers.Producers.Producers}
 use Rattle.rv_sentences.specs.declared.{stay.Stay.Stay, stays.Stays.Stays}
 use Rattle.rv_sentences.specs.declared.stay.Stay.TheVariants as stay
 

@@ -9,7 +9,8 @@ use Rattle.rv_sentences.specs.GreatestLines.{first_greatest, greatest_lines}
 use Rattle.rv_sentences.specs.Stack.{part_line, parts_of, share_text}
 use Rattle.rv_sentences.specs.Stay.{all_stays}
 use Rattle.rv_sentences.specs.WordNotes.{Notes, note_at}
-use Rattle.rv_sentences.specs.declared.{outcomes.Outcomes.Outcomes, counted_line.Greatest.Greatest, counted_line.CountedLine.CountedLine, stays.Stays.Stays}
+use Rattle.rv_sentences.specs.declared.{outcomes.Outcomes.Outcomes, counted_line.Greatest.Greatest}
+use Rattle.rv_sentences.specs.declared.{counted_line.CountedLine.CountedLine, stays.Stays.Stays}
 
 -- what instructions in flight wait for
 unfoldable pub wait_names : List (List ℕ)

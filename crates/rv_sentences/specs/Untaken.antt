@@ -1,11 +1,13 @@
 -- The interrupt lines that are high at the end of a run and were never taken, and what stood in the way.
-use Rattle.std.specs.Prelude.{ℕ, ◌||◌, Bool, false, nat_le, if◌then◌else◌, List, [], ◌∷◌, ◌++◌, codes, decimal, Option, Some, None}
+use Rattle.std.specs.Prelude.{ℕ, ◌||◌, Bool, false, nat_le, if◌then◌else◌, List}
+use Rattle.std.specs.Prelude.{[], ◌∷◌, ◌++◌, codes, decimal, Option, Some, None}
 use Rattle.std.specs.Option.{option_or}
 use Rattle.rv_isa.specs.declared.lines.Lines.{Lines}
 use Rattle.rv_arch.specs.Csr.{has_bit}
 use Rattle.rv_hardware.specs.Hardware.{Hardware}
 use Rattle.rv_hardware.specs.History.{Moment}
-use Rattle.rv_sentences.specs.declared.{interruption.Interruption.Interruption, interrupts.Interrupts.Interrupts, raised.Raised.Raised, series.Series.Series}
+use Rattle.rv_sentences.specs.declared.{interruption.Interruption.Interruption, interrupts.Interrupts.Interrupts}
+use Rattle.rv_sentences.specs.declared.{raised.Raised.Raised, series.Series.Series}
 
 -- the cycle from which a line is high, None where it is low, after a cycle with a level
 abbrev pub high_since : ℕ → Bool → Option ℕ → Option ℕ

@@ -1,5 +1,6 @@
 -- What became of the fetched words, and how many of the branches and jumps among them were mispredicted.
-use Rattle.std.specs.Prelude.{ℕ, ◌+◌, ◌/◌, ◌%◌, ◌==◌, ◌&&◌, Bool, if◌then◌else◌, List, ◌++◌, codes, count_by, decimal, length, Option, Some, None}
+use Rattle.std.specs.Prelude.{ℕ, ◌+◌, ◌/◌, ◌%◌, ◌==◌, ◌&&◌, Bool, if◌then◌else◌, List}
+use Rattle.std.specs.Prelude.{◌++◌, codes, count_by, decimal, length, Option, Some, None}
 use Rattle.rv_isa.specs.Instruction.{is_branch_or_jump}
 use Rattle.rv_memory.specs.Memory.{word_of}
 use Rattle.rv_passage.specs.Passage.{is_retirement, is_squash}

@@ -1,6 +1,7 @@
 ghost use Rattle.std.specs.Prelude.{◌≤◌, sum};
 ghost use Rattle.std.specs.List.{flat_map};
-ghost use Rattle.rv_sentences.specs.Hotspot.{empty_text, hotspot_text, hotspots_text, idle_text, loads_there, outcomes_line, stores_there};
+ghost use Rattle.rv_sentences.specs.Hotspot.{empty_text, hotspot_text, hotspots_text, idle_text};
+ghost use Rattle.rv_sentences.specs.Hotspot.{loads_there, outcomes_line, stores_there};
 ghost use Rattle.rv_text.specs.Said.{Says};
 
 use crate::counted_line::CountedLine;

@@ -1,4 +1,5 @@
-ghost use Rattle.rv_sentences.specs.Interrupt.{first_text, interrupts_text, last_cycle, last_text, line_text, series_text};
+ghost use Rattle.rv_sentences.specs.Interrupt.{first_text, interrupts_text, last_cycle};
+ghost use Rattle.rv_sentences.specs.Interrupt.{last_text, line_text, series_text};
 ghost use Rattle.rv_text.specs.Said.{Says};
 
 use crate::interruption::Interruption;

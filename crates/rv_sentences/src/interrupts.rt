@@ -1,7 +1,8 @@
 ghost use Rattle.std.specs.Prelude.{◌≡◌, ◌+◌, ◌<◌, ◌^◌, None, true, [], IfSome};
 ghost use Rattle.std.specs.List.{list_all};
 ghost use Rattle.rv_hardware.specs.Step.{is_retirement};
-ghost use Rattle.rv_sentences.specs.Interrupt.{AreCountable, by_line, interrupts_after, interruption_in, interruption_of, line_with, with_interruption};
+ghost use Rattle.rv_sentences.specs.Interrupt.{AreCountable, by_line, interrupts_after, interruption_in};
+ghost use Rattle.rv_sentences.specs.Interrupt.{interruption_of, line_with, with_interruption};
 
 use crate::interruption::Interruption;
 use crate::series::{Series, with_event};

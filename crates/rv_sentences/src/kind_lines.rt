@@ -1,6 +1,7 @@
 ghost use Rattle.std.specs.Prelude.{◌≡◌, Some};
 ghost use Rattle.std.specs.List.{flat_map};
-ghost use Rattle.rv_sentences.specs.Exception.{counted_text, cycles_text, exceptions_text, kind_text, kinds_text, others_text, several_text};
+ghost use Rattle.rv_sentences.specs.Exception.{counted_text, cycles_text, exceptions_text};
+ghost use Rattle.rv_sentences.specs.Exception.{kind_text, kinds_text, others_text, several_text};
 ghost use Rattle.rv_sentences.specs.Kinds.{others};
 ghost use Rattle.rv_text.specs.Said.{Says};
 

@@ -1,5 +1,6 @@
 ghost use Rattle.std.specs.Prelude.{◌≡◌};
-ghost use Rattle.rv_sentences.specs.OutcomeText.{forwarded_text, has_any, loads_aside, outcomes_aside, outcomes_text, stores_aside};
+ghost use Rattle.rv_sentences.specs.OutcomeText.{forwarded_text, has_any, loads_aside};
+ghost use Rattle.rv_sentences.specs.OutcomeText.{outcomes_aside, outcomes_text, stores_aside};
 ghost use Rattle.rv_text.specs.Said.{Says};
 
 use crate::outcomes::Outcomes;

@@ -1,6 +1,7 @@
 ghost use Rattle.std.specs.Prelude.{◌≡◌, [], drop, get_or, map, take};
 ghost use Rattle.rv_hardware.specs.Report.{all_stalls};
-ghost use Rattle.rv_sentences.specs.Stack.{column_line, parts_of, part_line, share_line, share_text, count_text, stall_line, stall_text};
+ghost use Rattle.rv_sentences.specs.Stack.{column_line, parts_of, part_line, share_line};
+ghost use Rattle.rv_sentences.specs.Stack.{share_text, count_text, stall_line, stall_text};
 ghost use Rattle.std.specs.List.{flat_map};
 ghost use Rattle.rv_text.specs.Said.{Says};
 

@@ -1,5 +1,7 @@
 ghost use Rattle.std.specs.Prelude.{◌≡◌};
-ghost use Rattle.rv_sentences.specs.Stay.{awaited, awaited_word, came_before, dispatched_stay, first_awaited, have_addresses, lacks_address, load_stay, open_stay, ready_stay, station_stay, stay_in};
+ghost use Rattle.rv_sentences.specs.Stay.{awaited, awaited_word, came_before, dispatched_stay};
+ghost use Rattle.rv_sentences.specs.Stay.{first_awaited, have_addresses, lacks_address, load_stay};
+ghost use Rattle.rv_sentences.specs.Stay.{open_stay, ready_stay, station_stay, stay_in};
 
 use rv_isa::Kind;
 use rv_passage::{Passage, Producer, Producers};

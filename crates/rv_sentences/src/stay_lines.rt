@@ -1,7 +1,9 @@
 ghost use Rattle.std.specs.Prelude.{◌≡◌, ◌≤◌, ◌<◌, ◌^◌, [], get_or, sum};
 ghost use Rattle.std.specs.List.{flat_map};
 ghost use Rattle.rv_sentences.specs.Stay.{all_stays};
-ghost use Rattle.rv_sentences.specs.StayLines.{awaited_line, awaited_text, greatest_waits_text, parts_text, second_wait_text, some_parts_text, stays_text, two_waits_text, wait_counts, wait_names, wait_text, waits_text};
+ghost use Rattle.rv_sentences.specs.StayLines.{awaited_line, awaited_text, greatest_waits_text, parts_text};
+ghost use Rattle.rv_sentences.specs.StayLines.{second_wait_text, some_parts_text, stays_text, two_waits_text};
+ghost use Rattle.rv_sentences.specs.StayLines.{wait_counts, wait_names, wait_text, waits_text};
 ghost use Rattle.rv_text.specs.Said.{Says};
 
 use crate::counted_line::{CountedLine, Greatest};

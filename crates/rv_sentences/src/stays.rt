@@ -1,6 +1,7 @@
 ghost use Rattle.std.specs.Prelude.{◌≡◌, ◌+◌, ◌-◌, ◌<◌, ◌^◌, length, sum};
 ghost use Rattle.std.specs.Option.{option_or};
-ghost use Rattle.rv_sentences.specs.Stay.{all_stays, awaited_word, oldest_awaited, stay_after, stays_among, stays_from, with_reason, with_stay, with_stays};
+ghost use Rattle.rv_sentences.specs.Stay.{all_stays, awaited_word, oldest_awaited, stay_after};
+ghost use Rattle.rv_sentences.specs.Stay.{stays_among, stays_from, with_reason, with_stay, with_stays};
 ghost use Rattle.rv_sentences.specs.WordCount.{with_one};
 
 use crate::stay::{Stay, awaited_word, stay_in};

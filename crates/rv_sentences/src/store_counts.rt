@@ -1,6 +1,7 @@
 ghost use Rattle.std.specs.Prelude.{◌≡◌, [], IfOk};
 ghost use Rattle.rv_counts.specs.declared.loads.LoadCosts.{LoadCosts};
-ghost use Rattle.rv_sentences.specs.Drained.{CanCountStore, hit_at, miss_at, store_counts, stores_at, with_drained, write_back_at};
+ghost use Rattle.rv_sentences.specs.Drained.{CanCountStore, hit_at, miss_at, store_counts};
+ghost use Rattle.rv_sentences.specs.Drained.{stores_at, with_drained, write_back_at};
 
 use crate::drained::Drained;
 use crate::outcomes::Outcomes;

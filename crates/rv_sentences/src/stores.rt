@@ -4,7 +4,8 @@ ghost use Rattle.rv_isa.specs.Operands.{sources_of};
 ghost use Rattle.std.specs.Option.{option_to_list};
 ghost use Rattle.rv_decode.specs.Decodes.{instruction_of};
 ghost use Rattle.rv_sentences.specs.Drained.{with_waiting};
-ghost use Rattle.rv_sentences.specs.LastStore.{registers_after, registers_since, store_of, stored_at, stores_in, with_stores};
+ghost use Rattle.rv_sentences.specs.LastStore.{registers_after, registers_since, store_of};
+ghost use Rattle.rv_sentences.specs.LastStore.{stored_at, stores_in, with_stores};
 
 use crate::stored::Stored;
 use crate::waiting_stores::WaitingStores;

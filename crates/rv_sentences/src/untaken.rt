@@ -1,6 +1,7 @@
 ghost use Rattle.std.specs.Prelude.{◌≡◌, ◌<◌, ◌++◌};
 ghost use Rattle.rv_arch.specs.Csr.{has_bit};
-ghost use Rattle.rv_sentences.specs.Untaken.{all_untaken_text, came_from, due_text, high_text, hindrance_text, passed_text, untaken_text};
+ghost use Rattle.rv_sentences.specs.Untaken.{all_untaken_text, came_from, due_text, high_text};
+ghost use Rattle.rv_sentences.specs.Untaken.{hindrance_text, passed_text, untaken_text};
 ghost use Rattle.rv_text.specs.Said.{Says};
 
 use crate::interruption::Interruption;

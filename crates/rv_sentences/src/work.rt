@@ -1,5 +1,6 @@
 ghost use Rattle.std.specs.Prelude.{◌≡◌, ◌+◌, ◌<◌, ◌^◌};
-ghost use Rattle.rv_sentences.specs.Work.{branches_text, is_mispredicted_branch, is_of, is_retired_branch, part_text, word_in, work_text, work_with};
+ghost use Rattle.rv_sentences.specs.Work.{branches_text, is_mispredicted_branch, is_of};
+ghost use Rattle.rv_sentences.specs.Work.{is_retired_branch, part_text, word_in, work_text, work_with};
 ghost use Rattle.rv_text.specs.Said.{Says};
 
 use crate::outcomes::one_more;

@@ -1,11 +1,15 @@
 -- What the texts are made of is JSON, or a part of it.
-use Rattle.std.proofs.Common.{◌≡◌, ◌∙◌, ℕ, suc, ◌==◌, ◌||◌, ◌&&◌, nat_le, Bool, true, false, not, if◌then◌else◌, List, [], ◌∷◌, ◌++◌, codes, refl, sym, ap, subst, append_assoc, append-nil, add-one}
+use Rattle.std.proofs.Common.{◌≡◌, ◌∙◌, ℕ, suc, ◌==◌, ◌||◌, ◌&&◌, nat_le, Bool, true, false, not, if◌then◌else◌}
+use Rattle.std.proofs.Common.{List, [], ◌∷◌, ◌++◌, codes, refl, sym, ap, subst, append_assoc, append-nil, add-one}
 use Rattle.std.specs.List.{flat_map, list_all}
 use Rattle.std.proofs.lemmas.Bool.{and_from, and_parts}
 use Rattle.rv_text.specs.Plain.{plain_byte}
-use Rattle.rv_states.specs.Grammar.{AreCharacters, AreLines, AreMembers, AreValues, IsJson, IsMember, IsString, empty_array, escaped, further_member, further_value, is_unescaped, line, named, no_characters, no_lines, no_members, no_values, unescaped}
+use Rattle.rv_states.specs.Grammar.{AreCharacters, AreLines, AreMembers, AreValues, IsJson, IsMember, IsString}
+use Rattle.rv_states.specs.Grammar.{empty_array, escaped, further_member, further_value, is_unescaped, line}
+use Rattle.rv_states.specs.Grammar.{named, no_characters, no_lines, no_members, no_values, unescaped}
 use Rattle.rv_states.specs.Grammar as grammar
-use Rattle.rv_states.specs.Json.{Json, also, array, begins, comma_at, json_byte, key, numeral, opens, quoted, string, truth, values_from}
+use Rattle.rv_states.specs.Json.{Json, also, array, begins, comma_at, json_byte, key}
+use Rattle.rv_states.specs.Json.{numeral, opens, quoted, string, truth, values_from}
 use Rattle.rv_states.proofs.Each.{each_of}
 use Rattle.rv_states.proofs.Numerals.{numeral_is_number}
 

@@ -2,9 +2,11 @@
 use Rattle.std.proofs.Common.{ℕ, List, Bool, true, false, if◌then◌else◌, [], Option, Some, None, refl}
 use Rattle.std.specs.Prelude.{codes, map, option_map}
 use Rattle.rv_isa.specs.Choice.{predictor_name}
-use Rattle.rv_isa.specs.declared.{broadcast.StoreAccess.StoreAccess, issues.Issue.Issue, lines.Lines.Lines, operations.Kind.Kind, per_kind.PerKind.PerKind}
+use Rattle.rv_isa.specs.declared.{broadcast.StoreAccess.StoreAccess, issues.Issue.Issue}
+use Rattle.rv_isa.specs.declared.{lines.Lines.Lines, operations.Kind.Kind, per_kind.PerKind.PerKind}
 use Rattle.rv_isa.specs.declared.operations.Kind.TheVariants as kind
-use Rattle.rv_isa.specs.declared.values.{CacheValues.CacheValues, KindValues.KindValues, PredictorKind.PredictorKind, PredictorValues.PredictorValues, Recovery.Recovery, Values.Values}
+use Rattle.rv_isa.specs.declared.values.{CacheValues.CacheValues, KindValues.KindValues, PredictorKind.PredictorKind}
+use Rattle.rv_isa.specs.declared.values.{PredictorValues.PredictorValues, Recovery.Recovery, Values.Values}
 use Rattle.rv_isa.specs.declared.values.Recovery.TheVariants.{Commit, Early}
 use Rattle.rv_arch.specs.Csr.{Kept}
 use Rattle.rv_arch.specs.declared.outcome.Stop.{Stop}
@@ -25,18 +27,22 @@ use Rattle.rv_stores.specs.declared.store.{Store.Store, StorePhase.StorePhase, S
 use Rattle.rv_stores.specs.declared.store.StorePhase.TheVariants.{Speculative, Committed, Draining}
 use Rattle.rv_stores.specs.declared.store.StoreState.TheVariants.{Waiting, Faulted, Filled}
 use Rattle.rv_units.specs.Pool.{Pool}
-use Rattle.rv_states.specs.Entry.{cause_of, cost_of, entry_text, fault_value_of, finished_in, head_text, issued_in, kind_text, next_pc_of, stage_text, value_of}
+use Rattle.rv_states.specs.Entry.{cause_of, cost_of, entry_text, fault_value_of, finished_in}
+use Rattle.rv_states.specs.Entry.{head_text, issued_in, kind_text, next_pc_of, stage_text, value_of}
 use Rattle.rv_states.specs.Fetched.{fetched_json, next_fetch_text}
 use Rattle.rv_states.specs.Grammar.{AreLines, AreMembers, IsJson}
-use Rattle.rv_states.specs.Instruction.{details_text, ended_text, ending_text, instruction_json, passage_text, retired_text, squashed_text, trapped_text}
+use Rattle.rv_states.specs.Instruction.{details_text, ended_text, ending_text, instruction_json}
+use Rattle.rv_states.specs.Instruction.{passage_text, retired_text, squashed_text, trapped_text}
 use Rattle.rv_states.specs.Json.{array, numeral, quoted}
 use Rattle.rv_states.specs.Listing.{line_if, line_text, listing_lines, place_text, statement_text}
-use Rattle.rv_states.specs.Machine.{buffers_text, cache_json, format_text, header_line, kind_json, kinds_text, machine_json, numbers_text, predictor_json, recovery_text, sizes_text, widths_text}
+use Rattle.rv_states.specs.Machine.{buffers_text, cache_json, format_text, header_line, kind_json, kinds_text}
+use Rattle.rv_states.specs.Machine.{machine_json, numbers_text, predictor_json, recovery_text, sizes_text, widths_text}
 use Rattle.rv_states.specs.Observed.{lines_text as levels_text, observed_text}
 use Rattle.rv_states.specs.Operand.{known_text, operand_json}
 use Rattle.rv_states.specs.Place.{word_address}
 use Rattle.rv_states.specs.Prediction.{asked_json, place_json}
-use Rattle.rv_states.specs.Queue.{access_text, filling_text, head_text as store_head, phase_name, state_name, store_json}
+use Rattle.rv_states.specs.Queue.{access_text, filling_text, head_text as store_head}
+use Rattle.rv_states.specs.Queue.{phase_name, state_name, store_json}
 use Rattle.rv_states.specs.Registers.{csrs_json, interrupts_text, trap_text}
 use Rattle.rv_states.specs.Set.{line_json, lines_text}
 use Rattle.rv_states.specs.Step.{interrupt_json, retirement_json, step_json, trap_json}
@@ -46,7 +52,9 @@ use Rattle.rv_states.specs.Word.{word_json, word_text}
 use Rattle.rv_isa.proofs.Names.{predictor_name-word}
 use Rattle.rv_states.proofs.Names.{word-safe}
 use Rattle.rv_states.proofs.Grammar.{IsOpen}
-use Rattle.rv_states.proofs.Safe.{IsSafe, array_of, beginning, begun, both, closes, counted, counted_some, each_safe, in_quotes, last, lines_each, member, more, no_lines, no_members, number, object, object_line, one_line, string_of, truth_of}
+use Rattle.rv_states.proofs.Safe.{IsSafe, array_of, beginning, begun, both, closes, counted, counted_some}
+use Rattle.rv_states.proofs.Safe.{each_safe, in_quotes, last, lines_each, member, more, no_lines}
+use Rattle.rv_states.proofs.Safe.{no_members, number, object, object_line, one_line, string_of, truth_of}
 
 -- the machine
 sizes : (v : Values) → IsSafe IsOpen (sizes_text v)

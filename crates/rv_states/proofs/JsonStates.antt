@@ -37,16 +37,23 @@ use Rattle.rv_states.specs.Instruction.{instruction_json}
 use Rattle.rv_states.specs.Memory.{memory_line, memory_lines, word_if, word_seen}
 use Rattle.rv_states.specs.Operands.{operand_text, operands_of, operands_text}
 use Rattle.rv_states.specs.Place.{word_address}
-use Rattle.rv_states.specs.Predictor.{asked_in, asked_of, asked_text, learned_places, learned_text, place_if, place_in, place_line, place_lines, place_taught, predictor_lines, predictor_text, uses_tables, untaught_predictor}
+use Rattle.rv_states.specs.Predictor.{asked_in, asked_of, asked_text, learned_places, learned_text}
+use Rattle.rv_states.specs.Predictor.{place_if, place_in, place_line, place_lines, place_taught}
+use Rattle.rv_states.specs.Predictor.{predictor_lines, predictor_text, uses_tables, untaught_predictor}
 use Rattle.rv_states.specs.Queue.{store_json}
 use Rattle.rv_states.specs.Sets.{lines_if, set_line, set_lines}
 use Rattle.rv_states.specs.State.{in_flight_text, parts_text, state_json}
-use Rattle.rv_states.specs.States.{cycle_text, cycles_text, head_text, lines_text, opening_text, states_text, storage_text, taught_by, window_text}
+use Rattle.rv_states.specs.States.{cycle_text, cycles_text, head_text, lines_text, opening_text}
+use Rattle.rv_states.specs.States.{states_text, storage_text, taught_by, window_text}
 use Rattle.rv_states.specs.Step.{step_json}
 use Rattle.rv_hardware.proofs.StallNames.{stall_name-word}
 use Rattle.rv_states.proofs.Names.{is_safe_byte, word-safe}
-use Rattle.rv_states.proofs.JsonParts.{asked_is, entry_is, fetched_is, header_is, instruction_is, listing_is, next_fetch_is, observed_is, operand_is, place_is, set_is, step_is, stop_is, store_is, units_are, word_is}
-use Rattle.rv_states.proofs.Safe.{AllSafe, IsSafe, array_of, beginning, both, closes, counted, each_safe, in_quotes, lines_both, lines_each, lines_unless, lines_where, member, members_each, more, no_lines, no_members, number, object, object_line, one_line}
+use Rattle.rv_states.proofs.JsonParts.{asked_is, entry_is, fetched_is, header_is, instruction_is}
+use Rattle.rv_states.proofs.JsonParts.{listing_is, next_fetch_is, observed_is, operand_is, place_is}
+use Rattle.rv_states.proofs.JsonParts.{set_is, step_is, stop_is, store_is, units_are, word_is}
+use Rattle.rv_states.proofs.Safe.{AllSafe, IsSafe, array_of, beginning, both, closes, counted, each_safe}
+use Rattle.rv_states.proofs.Safe.{in_quotes, lines_both, lines_each, lines_unless, lines_where, member}
+use Rattle.rv_states.proofs.Safe.{members_each, more, no_lines, no_members, number, object, object_line, one_line}
 
 stall_name-safe : (reason : Stall) → list_all is_safe_byte (stall_name reason) ≡ true
 stall_name-safe reason = word-safe (stall_name reason) (stall_name-word reason)

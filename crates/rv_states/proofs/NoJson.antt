@@ -1,12 +1,16 @@
 -- Texts that are no JSON by RFC 8259. The grammar cannot say so itself, so a reader stands beside it: it goes from byte
 -- to byte by what it waits for, takes each text that the grammar gives, and refuses each row below. So a grammar that
 -- allows more than it should is refused here.
-use Rattle.std.proofs.Common.{◌≡◌, ◌∙◌, ℕ, ◌==◌, ◌||◌, ◌&&◌, nat_le, Bool, true, false, not, if◌then◌else◌, List, [], ◌∷◌, ◌++◌, map, codes, Option, Some, None, refl, sym, ap, append_assoc, append-nil}
+use Rattle.std.proofs.Common.{◌≡◌, ◌∙◌, ℕ, ◌==◌, ◌||◌, ◌&&◌, nat_le, Bool, true, false, not, if◌then◌else◌, List, []}
+use Rattle.std.proofs.Common.{◌∷◌, ◌++◌, map, codes, Option, Some, None, refl, sym, ap, append_assoc, append-nil}
 use Rattle.std.specs.Char.{is_ascii_digit, is_digit}
 use Rattle.std.specs.List.{list_all}
 use Rattle.std.specs.Option.{option_map_or}
 use Rattle.std.proofs.lemmas.Bool.{and_parts}
-use Rattle.rv_states.specs.Grammar.{AreCharacters, AreLines, AreMembers, AreValues, IsJson, IsMember, IsNumber, IsString, array, digits, empty_array, escaped, falsehood, further_member, further_value, in_quotes, line, named, no_characters, no_lines, no_members, no_values, number, object, string, truth, unescaped, zero_alone}
+use Rattle.rv_states.specs.Grammar.{AreCharacters, AreLines, AreMembers, AreValues, IsJson, IsMember, IsNumber}
+use Rattle.rv_states.specs.Grammar.{IsString, array, digits, empty_array, escaped, falsehood, further_member}
+use Rattle.rv_states.specs.Grammar.{further_value, in_quotes, line, named, no_characters, no_lines, no_members}
+use Rattle.rv_states.specs.Grammar.{no_values, number, object, string, truth, unescaped, zero_alone}
 
 -- ---- the reader
 

@@ -1,5 +1,6 @@
 -- No text of JSON has a byte that HTML gives a meaning.
-use Rattle.std.proofs.Common.{◌≡◌, ◌∙◌, ℕ, zero, suc, ◌+◌, ◌<◌, ◌==◌, ◌||◌, ◌&&◌, nat_le, Bool, true, false, if◌then◌else◌, List, [], ◌∷◌, ◌++◌, refl, ap, arith}
+use Rattle.std.proofs.Common.{◌≡◌, ◌∙◌, ℕ, zero, suc, ◌+◌, ◌<◌, ◌==◌, ◌||◌, ◌&&◌, nat_le, Bool}
+use Rattle.std.proofs.Common.{true, false, if◌then◌else◌, List, [], ◌∷◌, ◌++◌, refl, ap, arith}
 use Rattle.std.specs.Prelude.{codes, map}
 use Rattle.std.specs.Int.Digits.{AllBelowBase, digits_of}
 use Rattle.std.specs.List.{list_any}
@@ -7,7 +8,8 @@ use Rattle.std.proofs.lemmas.Bool.{or_from}
 use Rattle.std.proofs.lemmas.Int.Digits.{all_below_base_digits_of}
 use Rattle.std.proofs.lemmas.List.Folds.{list_any-append}
 use Rattle.rv_text.specs.Plain.{plain_byte}
-use Rattle.rv_states.specs.Json.{Json, also, array, begins, comma_at, json_byte, key, numeral, opens, quoted, string, truth, values_from}
+use Rattle.rv_states.specs.Json.{Json, also, array, begins, comma_at, json_byte, key}
+use Rattle.rv_states.specs.Json.{numeral, opens, quoted, string, truth, values_from}
 use Rattle.rv_states.specs.Markup.{HasNoMarkup, is_markup}
 use Rattle.rv_states.proofs.Each.{each_of}
 

@@ -1,5 +1,6 @@
 -- What the texts are made of is JSON, or a part of it, and no byte of it is one that HTML gives a meaning.
-use Rattle.std.proofs.Common.{◌≡◌, ℕ, Bool, true, if◌then◌else◌, List, [], ◌∷◌, ◌++◌, map, codes, Option, Some, None, refl}
+use Rattle.std.proofs.Common.{◌≡◌, ℕ, Bool, true, if◌then◌else◌, List, []}
+use Rattle.std.proofs.Common.{◌∷◌, ◌++◌, map, codes, Option, Some, None, refl}
 use Rattle.std.specs.List.{flat_map, list_all}
 use Rattle.rv_states.specs.Grammar.{AreLines, AreMembers, IsJson}
 use Rattle.rv_states.specs.Grammar as rule

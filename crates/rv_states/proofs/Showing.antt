@@ -1,5 +1,7 @@
 -- A run under way whose states are written: no cycle yet, one more cycle of it, and its end.
-use Rattle.std.proofs.Common.{◌≡◌, ◌∙◌, ℕ, ◌+◌, ◌<◌, ◌≤◌, ◌==◌, nat_lt, if◌then◌else◌, true, false, List, [], ◌∷◌, ◌++◌, length, map, vec_capacity, Option, refl, sym, ap, arith, inl, inr, append_assoc, append-nil, length-append, le-ltb, ltb-true, ne_eqb}
+use Rattle.std.proofs.Common.{◌≡◌, ◌∙◌, ℕ, ◌+◌, ◌<◌, ◌≤◌, ◌==◌, nat_lt, if◌then◌else◌, true, false, List}
+use Rattle.std.proofs.Common.{[], ◌∷◌, ◌++◌, length, map, vec_capacity, Option, refl, sym, ap, arith, inl}
+use Rattle.std.proofs.Common.{inr, append_assoc, append-nil, length-append, le-ltb, ltb-true, ne_eqb}
 use Rattle.std.specs.Prelude.{Bool, codes}
 use Rattle.std.specs.List.{flat_map, fold}
 use Rattle.std.proofs.lemmas.Bool.{cases_Bool}
@@ -37,7 +39,8 @@ use Rattle.rv_states.specs.Json.{Json, also, array, begins, numeral}
 use Rattle.rv_states.specs.Page.{after_lines, before_lines}
 use Rattle.rv_states.specs.Predictor.{after_lessons, predictor_lines, predictor_text, untaught_predictor}
 use Rattle.rv_states.specs.Showing.{IsFollowing, IsShowing, kept_of}
-use Rattle.rv_states.specs.States.{WritesStates, begun_text, cycle_text, cycles_text, head_text, lines_text, shown_text, states_text, storage_text, taught_by, window_text}
+use Rattle.rv_states.specs.States.{WritesStates, begun_text, cycle_text, cycles_text, head_text, lines_text}
+use Rattle.rv_states.specs.States.{shown_text, states_text, storage_text, taught_by, window_text}
 use Rattle.rv_states.specs.Step.{step_json}
 use Rattle.rv_states.specs.Stop.{stop_line}
 use Rattle.rv_states.specs.declared.form.Form.{Form}

@@ -3,7 +3,8 @@ use Rattle.std.specs.Prelude.{ℕ, List, [], ◌++◌, codes, Option, Some, None
 use Rattle.rv_isa.specs.Cause.{code_of}
 use Rattle.rv_isa.specs.Instruction.{kind_of_word, target_of_word}
 use Rattle.rv_isa.specs.Key.{kind_name}
-use Rattle.rv_isa.specs.declared.{broadcast.Message.Message, causes.Fault.Fault, issues.Issue.Issue, operations.Kind.Kind}
+use Rattle.rv_isa.specs.declared.{broadcast.Message.Message, causes.Fault.Fault}
+use Rattle.rv_isa.specs.declared.{issues.Issue.Issue, operations.Kind.Kind}
 use Rattle.rv_hardware.specs.InFlight.{broadcast_of}
 use Rattle.rv_rob.specs.Entry.{issue_of}
 use Rattle.rv_rob.specs.declared.entry.{Entry.Entry, Stage.Stage}

@@ -1,5 +1,6 @@
 -- The line of a word of the program.
-use Rattle.std.specs.Prelude.{ℕ, ◌-◌, ◌/◌, ◌==◌, Bool, true, false, not, if◌then◌else◌, List, [], ◌++◌, codes, Option, Some, None, option_map}
+use Rattle.std.specs.Prelude.{ℕ, ◌-◌, ◌/◌, ◌==◌, Bool, true, false, not, if◌then◌else◌}
+use Rattle.std.specs.Prelude.{List, [], ◌++◌, codes, Option, Some, None, option_map}
 use Rattle.std.specs.List.{flat_map, range_with_len}
 use Rattle.rv_isa.specs.declared.values.Values.{Values}
 use Rattle.rv_source.specs.Listing.{Line, Listed, line_at}

@@ -1,6 +1,7 @@
 -- The machine's values, as JSON.
 use Rattle.std.specs.Prelude.{ℕ, List, ◌++◌, codes}
-use Rattle.rv_isa.specs.declared.values.{CacheValues.CacheValues, KindValues.KindValues, PredictorValues.PredictorValues, Recovery.Recovery, Values.Values}
+use Rattle.rv_isa.specs.declared.values.{CacheValues.CacheValues, KindValues.KindValues}
+use Rattle.rv_isa.specs.declared.values.{PredictorValues.PredictorValues, Recovery.Recovery, Values.Values}
 use Rattle.rv_isa.specs.Choice.{predictor_name, recovery_name}
 use Rattle.rv_states.specs.Json.{Json, also, begins, key, numeral, quoted, truth}
 

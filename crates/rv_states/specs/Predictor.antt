@@ -1,5 +1,6 @@
 -- What the machine's branch predictor knows of the steps of a run, which it begins untaught, and what it answers.
-use Rattle.std.specs.Prelude.{ℕ, ◌==◌, ◌&&◌, Bool, true, false, is_none, if◌then◌else◌, List, [], ◌∷◌, ◌++◌, length, codes, slice_index, Option, Some, None}
+use Rattle.std.specs.Prelude.{ℕ, ◌==◌, ◌&&◌, Bool, true, false, is_none, if◌then◌else◌, List}
+use Rattle.std.specs.Prelude.{[], ◌∷◌, ◌++◌, length, codes, slice_index, Option, Some, None}
 use Rattle.std.specs.Option.{option_map, option_map_or}
 use Rattle.std.specs.List.{flat_map, fold, range_with_len, slice_index_or}
 use Rattle.rv_isa.specs.declared.values.Values.{Values}
@@ -7,7 +8,8 @@ use Rattle.rv_front.specs.Flow.{flow_at}
 use Rattle.rv_front.specs.Lesson.{Lesson}
 use Rattle.rv_front.specs.Predictors.{answer, described, place_of, tables_of, taught}
 use Rattle.rv_front.specs.Tables.{Tables}
-use Rattle.rv_front.specs.declared.{fetched.Fetched.Fetched, flow.Flow.Flow, predictors.DescribedPredictor.DescribedPredictor}
+use Rattle.rv_front.specs.declared.{fetched.Fetched.Fetched, flow.Flow.Flow}
+use Rattle.rv_front.specs.declared.{predictors.DescribedPredictor.DescribedPredictor}
 use Rattle.rv_front.specs.declared.flow.Flow.TheVariants.{Sequential, Jump, Branch, Indirect}
 use Rattle.rv_hardware.specs.declared.step.Step.{Step}
 use Rattle.rv_hardware.specs.declared.step.Step.TheVariants.{Retired, Trap, Interrupt}

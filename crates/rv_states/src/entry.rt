@@ -1,7 +1,8 @@
 ghost use Rattle.std.specs.Prelude.{◌≡◌};
 ghost use Rattle.rv_hardware.specs.InFlight.{broadcast_of};
 ghost use Rattle.rv_isa.specs.Instruction.{kind_of_word, target_of_word};
-ghost use Rattle.rv_states.specs.Entry.{cause_of, cost_of, entry_text, fault_of, fault_value_of, finished_in, head_text, issued_in, kind_text, next_pc_of, stage_text, value_of};
+ghost use Rattle.rv_states.specs.Entry.{cause_of, cost_of, entry_text, fault_of, fault_value_of, finished_in};
+ghost use Rattle.rv_states.specs.Entry.{head_text, issued_in, kind_text, next_pc_of, stage_text, value_of};
 ghost use Rattle.rv_text.specs.Said.{Says};
 
 use crate::json::{Member, write_front, write_members, write_name};

@@ -1,5 +1,6 @@
 ghost use Rattle.std.specs.Prelude.{◌≡◌};
-ghost use Rattle.rv_states.specs.Instruction.{cost_of, details_text, ended_text, ending_text, instruction_json, passage_text, retired_text, trapped_text};
+ghost use Rattle.rv_states.specs.Instruction.{cost_of, details_text, ended_text, ending_text};
+ghost use Rattle.rv_states.specs.Instruction.{instruction_json, passage_text, retired_text, trapped_text};
 ghost use Rattle.rv_text.specs.Said.{Says};
 
 use crate::array::Values;

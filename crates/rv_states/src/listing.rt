@@ -1,5 +1,6 @@
 ghost use Rattle.std.specs.Prelude.{◌≡◌};
-ghost use Rattle.rv_states.specs.Listing.{is_first_of, line_before, line_text, listing_line, listing_lines, numbered_line, statement_text};
+ghost use Rattle.rv_states.specs.Listing.{is_first_of, line_before, line_text, listing_line};
+ghost use Rattle.rv_states.specs.Listing.{listing_lines, numbered_line, statement_text};
 ghost use Rattle.rv_text.specs.Said.{Says};
 
 use crate::json::{Member, write_front, write_key, write_string};

@@ -1,7 +1,8 @@
 ghost use Rattle.std.specs.Prelude.{codes};
 ghost use Rattle.rv_isa.specs.Key.{kind_name};
 ghost use Rattle.rv_states.specs.Json.{also};
-ghost use Rattle.rv_states.specs.Machine.{buffers_text, cache_json, header_line, kind_json, kinds_text, machine_json, numbers_text, predictor_json, recovery_text, sizes_text, widths_text};
+ghost use Rattle.rv_states.specs.Machine.{buffers_text, cache_json, header_line, kind_json, kinds_text, machine_json};
+ghost use Rattle.rv_states.specs.Machine.{numbers_text, predictor_json, recovery_text, sizes_text, widths_text};
 ghost use Rattle.rv_text.specs.Said.{Says};
 
 use crate::json::{

@@ -2,7 +2,9 @@ ghost use Rattle.std.specs.Prelude.{◌≡◌, ◌+◌, ◌<◌, ◌≤◌, [], 
 ghost use Rattle.std.specs.List.{flat_map};
 ghost use Rattle.rv_hardware.specs.Lessons.{lesson_of, lessons_of};
 ghost use Rattle.rv_states.specs.Json.{values_from};
-ghost use Rattle.rv_states.specs.Predictor.{after_lessons, asked_in, asked_text, learned_text, place_at, place_in, place_line, place_lines, place_taught, predictor_lines, predictor_text, uses_tables};
+ghost use Rattle.rv_states.specs.Predictor.{after_lessons, asked_in, asked_text, learned_text};
+ghost use Rattle.rv_states.specs.Predictor.{place_at, place_in, place_line, place_lines, place_taught};
+ghost use Rattle.rv_states.specs.Predictor.{predictor_lines, predictor_text, uses_tables};
 ghost use Rattle.rv_text.specs.Said.{Says};
 
 use crate::array::write_comma;

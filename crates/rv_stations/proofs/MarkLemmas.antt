@@ -17,7 +17,8 @@ use Rattle.rv_stations.specs.Waiting.{is_asked, is_ready, loads}
 use Rattle.rv_stations.specs.PoolFields.{some_waiting, nothing, pool, IsMarkedOther, IsSoundPool}
 use Rattle.rv_stations.specs.declared.pool.StationPool.TheInside.{Inside}
 use Rattle.rv_stations.proofs.PlaceLemmas.{All-remove, All-others}
-use Rattle.rv_stations.proofs.PoolLemmas.{length-pool, place_there, ready_by_bits, loads_by_instruction, is_ready-in_place}
+use Rattle.rv_stations.proofs.PoolLemmas.{length-pool, place_there, ready_by_bits}
+use Rattle.rv_stations.proofs.PoolLemmas.{loads_by_instruction, is_ready-in_place}
 
 -- no two places are the same
 abbrev pub AreApart : List ℕ → Type 0

@@ -1,5 +1,6 @@
 -- The operands in a column, and how the lists of tags and of values change when a producer is broadcast.
-use Rattle.std.specs.Prelude.{◌≡◌, ℕ, ◌+◌, ◌<◌, ◌%◌, Bool, not, length, get_or, take, drop, List, ◌++◌, ◌==◌, if◌then◌else◌}
+use Rattle.std.specs.Prelude.{◌≡◌, ℕ, ◌+◌, ◌<◌, ◌%◌, Bool, not, length, get_or}
+use Rattle.std.specs.Prelude.{take, drop, List, ◌++◌, ◌==◌, if◌then◌else◌}
 use Rattle.std.specs.Int.{bit_at}
 use Rattle.rv_stations.specs.declared.{lanes.TheConstants.NO_PRODUCER, waiting.Operand.Operand}
 use Rattle.rv_stations.specs.declared.waiting.Operand.TheVariants.{Value, Tag}

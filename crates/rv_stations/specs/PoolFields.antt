@@ -4,7 +4,8 @@ use Rattle.std.specs.Int.{bit_at}
 use Rattle.std.specs.List.{All, AllPairs}
 use Rattle.std.specs.Simd.Lanes.{zip2}
 use Rattle.rv_isa.specs.declared.instructions.Instr.TheVariants.{Fence}
-use Rattle.rv_stations.specs.declared.{waiting.Operand.Operand, waiting.Waiting.Waiting, pool.Dispatched.Dispatched, pool.StationPool.TheInside.Inside}
+use Rattle.rv_stations.specs.declared.{waiting.Operand.Operand, waiting.Waiting.Waiting}
+use Rattle.rv_stations.specs.declared.{pool.Dispatched.Dispatched, pool.StationPool.TheInside.Inside}
 use Rattle.rv_stations.specs.declared.waiting.Operand.TheVariants.{Value}
 use Rattle.rv_isa.specs.Instruction.{is_load}
 use Rattle.rv_isa.specs.Numbered.{IsInOrder}

@@ -1,6 +1,8 @@
 -- Instructions that wait for their operands, in order of their sequence numbers.
-use Rattle.std.specs.Prelude.{◌≡◌, ℕ, ◌^◌, ◌<◌, Bool, true, false, not, ◌&&◌, ◌==◌, List, [], ◌∷◌, take, option_and_then, Option, Some, None, if◌then◌else◌}
-use Rattle.rv_stations.specs.declared.waiting.{Operand.Operand, Ready.Ready, Taken.Taken, Verdict.Verdict, Waiting.Waiting}
+use Rattle.std.specs.Prelude.{◌≡◌, ℕ, ◌^◌, ◌<◌, Bool, true, false, not, ◌&&◌, ◌==◌, List, []}
+use Rattle.std.specs.Prelude.{◌∷◌, take, option_and_then, Option, Some, None, if◌then◌else◌}
+use Rattle.rv_stations.specs.declared.waiting.{Operand.Operand, Ready.Ready, Taken.Taken}
+use Rattle.rv_stations.specs.declared.waiting.{Verdict.Verdict, Waiting.Waiting}
 use Rattle.std.specs.Option.{option_map}
 use Rattle.rv_stations.specs.declared.waiting.Operand.TheVariants.{Value, Tag}
 use Rattle.rv_stations.specs.declared.waiting.Verdict.TheVariants.{Goes, Waits, LoadsWait}

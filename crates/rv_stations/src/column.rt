@@ -1,4 +1,5 @@
-ghost use Rattle.std.specs.Prelude.{true, ◌≡◌, ◌<◌, ◌≤◌, ◌+◌, ◌%◌, Some, length, map, replicate, slice_get, slice_set, IfOk};
+ghost use Rattle.std.specs.Prelude.{true, ◌≡◌, ◌<◌, ◌≤◌, ◌+◌, ◌%◌, Some, length};
+ghost use Rattle.std.specs.Prelude.{map, replicate, slice_get, slice_set, IfOk};
 ghost use Rattle.rv_stations.specs.declared.lanes.TheConstants.{NO_PRODUCER as NO_PRODUCER_TAG};
 ghost use Rattle.rv_stations.specs.declared.waiting.Operand.TheVariants.{Value as HeldValue};
 ghost use Rattle.rv_stations.specs.Waiting.{IsOperand, has_value, woken_operand};

@@ -1,4 +1,5 @@
-ghost use Rattle.std.specs.Prelude.{ℕ, false, ◌≡◌, ◌<◌, ◌≤◌, ◌-◌, ◌==◌, IfOk, get_or, length, remove, slice_index, vec_len};
+ghost use Rattle.std.specs.Prelude.{ℕ, false, ◌≡◌, ◌<◌, ◌≤◌, ◌-◌, ◌==◌, IfOk};
+ghost use Rattle.std.specs.Prelude.{get_or, length, remove, slice_index, vec_len};
 ghost use Rattle.std.specs.Int.{bit_at};
 ghost use Rattle.std.specs.List.{All, insert, range_with_len};
 

@@ -1,8 +1,10 @@
-ghost use Rattle.std.specs.Prelude.{ℕ, ◌≡◌, ◌<◌, ◌≤◌, ◌↔◌, Bool, [], None, Some, length, take, nat_le, slice_get, IsTrue, IfOk, IfSome, option_and_then, false, true};
+ghost use Rattle.std.specs.Prelude.{ℕ, ◌≡◌, ◌<◌, ◌≤◌, ◌↔◌, Bool, [], None, Some, length, take, nat_le};
+ghost use Rattle.std.specs.Prelude.{slice_get, IsTrue, IfOk, IfSome, option_and_then, false, true};
 ghost use Rattle.rv_isa.specs.Description.{Within};
 ghost use Rattle.rv_isa.specs.Instruction.{is_load};
 ghost use Rattle.rv_isa.specs.Numbered.{AreBelow, IsInOrder, below};
-ghost use Rattle.rv_stations.specs.Waiting.{seq_of, ArePassedBy, IsOperand, is_asked, is_ready, next_ready, ready_taken, oldest_ready};
+ghost use Rattle.rv_stations.specs.Waiting.{seq_of, ArePassedBy, IsOperand, is_asked};
+ghost use Rattle.rv_stations.specs.Waiting.{is_ready, next_ready, ready_taken, oldest_ready};
 ghost use Rattle.std.specs.Option.{option_map};
 
 use crate::column::OperandColumn;
@@ -63,7 +65,8 @@ fn is_load(instruction: Instr) -> bool
 }
 
 impl StationPool {
-    ghost use Rattle.rv_stations.specs.Pool.{Searches, empty_pool, with_waiting, woken_pool, issued, squashed, without_place};
+    ghost use Rattle.rv_stations.specs.Pool.{Searches, empty_pool, with_waiting};
+    ghost use Rattle.rv_stations.specs.Pool.{woken_pool, issued, squashed, without_place};
 
     /// The stations that a description gives a kind, with nothing in them.
     pub fn new(alloc: Global, kind: KindValues) -> Result<Self, AllocError>

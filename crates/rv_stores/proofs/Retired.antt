@@ -1,5 +1,6 @@
 -- A retirement changes the store at one place: the first that is not committed.
-use Rattle.std.proofs.Common.{◌≡◌, ℕ, zero, suc, ◌+◌, Bool, true, false, cond, ◌<◌, List, [], ◌∷◌, All, slice_get, slice_set, Some, None, refl, sym, ap, ◌∙◌, arith}
+use Rattle.std.proofs.Common.{◌≡◌, ℕ, zero, suc, ◌+◌, Bool, true, false, cond, ◌<◌, List, [], ◌∷◌}
+use Rattle.std.proofs.Common.{All, slice_get, slice_set, Some, None, refl, sym, ap, ◌∙◌, arith}
 use Rattle.std.proofs.lemmas.Bool.{true≢false}
 use Rattle.std.specs.List.{prefix_len}
 use Rattle.rv_stores.specs.declared.store.Store.{Store}

@@ -1,5 +1,6 @@
 -- The store queue as a list of stores, oldest first, and what the calls make and say of it.
-use Rattle.std.specs.Prelude.{◌≡◌, ℕ, ◌+◌, ◌<◌, Bool, true, false, nat_lt, length, List, [], ◌∷◌, find, map, not, AllPairs, Option, None, if◌then◌else◌}
+use Rattle.std.specs.Prelude.{◌≡◌, ℕ, ◌+◌, ◌<◌, Bool, true, false, nat_lt, length, List, []}
+use Rattle.std.specs.Prelude.{◌∷◌, find, map, not, AllPairs, Option, None, if◌then◌else◌}
 use Rattle.std.specs.Option.{option_map, option_or}
 use Rattle.rv_isa.specs.declared.broadcast.StoreAccess.{StoreAccess}
 use Rattle.rv_isa.specs.Numbered.{below, AreBelow}

@@ -1,5 +1,6 @@
 -- What a store of the queue shows, and what becomes of it.
-use Rattle.std.specs.Prelude.{ℕ, ◌+◌, ◌-◌, Bool, true, false, nat_lt, nat_le, ◌==◌, Option, Some, None, slice_get, slice_index_or, List, [], ◌∷◌, map, if◌then◌else◌}
+use Rattle.std.specs.Prelude.{ℕ, ◌+◌, ◌-◌, Bool, true, false, nat_lt, nat_le, ◌==◌, Option, Some}
+use Rattle.std.specs.Prelude.{None, slice_get, slice_index_or, List, [], ◌∷◌, map, if◌then◌else◌}
 use Rattle.std.specs.Option.{option_or}
 use Rattle.rv_isa.specs.declared.broadcast.StoreAccess.{StoreAccess}
 use Rattle.rv_stores.specs.declared.store.StorePhase.TheVariants.{Speculative, Committed, Draining}

@@ -1,7 +1,10 @@
-ghost use Rattle.std.specs.Prelude.{◌≡◌, ◌≤◌, ◌↔◌, ◌++◌, ◌∷◌, [], Some, length, map, filter, nat_lt, nat_le, option_copied, slice_get, IsTrue, IsSome, IfOk, false};
+ghost use Rattle.std.specs.Prelude.{◌≡◌, ◌≤◌, ◌↔◌, ◌++◌, ◌∷◌, [], Some, length, map, filter, nat_lt};
+ghost use Rattle.std.specs.Prelude.{nat_le, option_copied, slice_get, IsTrue, IsSome, IfOk, false};
 ghost use Rattle.std.specs.List.{prefix_len};
 ghost use Rattle.rv_isa.specs.Numbered.{AreBelow};
-ghost use Rattle.rv_stores.specs.Queue.{CanEnter, first_unknown, forwarded, is_oldest_draining, older_than, oldest_to_drain, with_oldest_draining, with_oldest_retired, without_drained, youngest_byte};
+ghost use Rattle.rv_stores.specs.Queue.{CanEnter, first_unknown, forwarded, is_oldest_draining};
+ghost use Rattle.rv_stores.specs.Queue.{older_than, oldest_to_drain, with_oldest_draining};
+ghost use Rattle.rv_stores.specs.Queue.{with_oldest_retired, without_drained, youngest_byte};
 ghost use Rattle.rv_stores.specs.Store.{answered, entered, filled_with, is_committed, is_committed_state};
 ghost use Rattle.rv_stores.specs.declared.store.StoreState.TheVariants.{Faulted};
 

@@ -1,5 +1,6 @@
 ghost use Rattle.std.specs.Prelude.{◌≡◌, ◌<◌};
-ghost use Rattle.rv_stores.specs.Store.{answered, byte_at, draining, is_committed, is_draining, is_known, laid_byte, laid_over, retired, told, access_to_drain};
+ghost use Rattle.rv_stores.specs.Store.{answered, byte_at, draining, is_committed, is_draining};
+ghost use Rattle.rv_stores.specs.Store.{is_known, laid_byte, laid_over, retired, told, access_to_drain};
 
 use rv_isa::StoreAccess;
 

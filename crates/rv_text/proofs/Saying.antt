@@ -1,5 +1,6 @@
 -- What was said, and then said on.
-use Rattle.std.proofs.Common.{◌≡◌, ℕ, ◌+◌, ◌<◌, ◌≤◌, List, [], ◌++◌, length, get_or, take, Option, refl, sym, ap, subst, ◌∙◌, append_assoc, append-nil, add-one}
+use Rattle.std.proofs.Common.{◌≡◌, ℕ, ◌+◌, ◌<◌, ◌≤◌, List, [], ◌++◌, length, get_or, take, Option}
+use Rattle.std.proofs.Common.{refl, sym, ap, subst, ◌∙◌, append_assoc, append-nil, add-one}
 use Rattle.std.specs.Prelude.{Bool, true, false, Result, Ok, Err, is_err}
 use Rattle.std.specs.List.{flat_map}
 use Rattle.std.proofs.lemmas.List.{take_all}
@@ -7,7 +8,8 @@ use Rattle.rv_text.specs.IsText.{IsText}
 use Rattle.rv_text.specs.Said.{Extends, IsSaid, Says, answered}
 use Rattle.rv_text.specs.Written.{IsWritten}
 use Rattle.rv_text.specs.declared.sink.Sink.{Sink}
-use Rattle.rv_text.proofs.Writing.{Appends-both, Appends-nothing, Appends-same, beginning-both, beginning-longer, beginning-same, flat_map-more, texts_below, texts_below-more}
+use Rattle.rv_text.proofs.Writing.{Appends-both, Appends-nothing, Appends-same, beginning-both, beginning-longer}
+use Rattle.rv_text.proofs.Writing.{beginning-same, flat_map-more, texts_below, texts_below-more}
 
 said_same : (failed : Bool) (before now : Option (List ℕ)) (xs ys : List ℕ) → xs ≡ ys → IsSaid failed before now xs → IsSaid failed before now ys
 said_same true before now xs ys same said = beginning-same before now xs ys same said

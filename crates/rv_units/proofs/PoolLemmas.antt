@@ -1,7 +1,9 @@
 -- The starts of a pipelined kind, all of one cycle.
-use Rattle.std.proofs.Common.{◌≡◌, ℕ, ◌+◌, ◌++◌, length, eqb, zero, suc, true, false, cond, List, [], ◌∷◌, replicate, inl, inr, nat_le, nat_lt, refl, sym, ap, ◌∙◌, arith}
+use Rattle.std.proofs.Common.{◌≡◌, ℕ, ◌+◌, ◌++◌, length, eqb, zero, suc, true, false, cond, List, []}
+use Rattle.std.proofs.Common.{◌∷◌, replicate, inl, inr, nat_le, nat_lt, refl, sym, ap, ◌∙◌, arith}
 use Rattle.std.proofs.lemmas.List.{length-replicate, replicate_more}
-use Rattle.std.proofs.lemmas.Bool.{cases_lt, cases_Bool, eqb-true, eq-eqb, true≢false, le-leb, lt-leb, lt-ltb, le-ltb, and_from, and_left, and_right}
+use Rattle.std.proofs.lemmas.Bool.{cases_lt, cases_Bool, eqb-true, eq-eqb, true≢false, le-leb}
+use Rattle.std.proofs.lemmas.Bool.{lt-leb, lt-ltb, le-ltb, and_from, and_left, and_right}
 use Rattle.rv_isa.specs.declared.issues.Issue.{Issue}
 use Rattle.rv_units.specs.Pool.{Pool, holding, holds_unit, started}
 

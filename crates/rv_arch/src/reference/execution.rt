@@ -2,7 +2,8 @@ ghost use Rattle.std.specs.Prelude.{◌≡◌, ◌%◌, ◌*◌, ◌^◌, ◌<�
 ghost use Rattle.rv_isa.specs.Operation.{bytes_of, width_of, is_sign_extended};
 ghost use Rattle.rv_isa.specs.Word.{modulo_word, sum, pc_plus_4};
 ghost use Rattle.rv_arch.specs.Csr.{access};
-ghost use Rattle.rv_arch.specs.Effect.{effect, extended, writes, goes_to, jumps, branches, loads, stores, refreshes, accesses, returns_from_trap};
+ghost use Rattle.rv_arch.specs.Effect.{effect, extended, writes, goes_to, jumps, branches};
+ghost use Rattle.rv_arch.specs.Effect.{loads, stores, refreshes, accesses, returns_from_trap};
 ghost use Rattle.rv_arch.specs.Machine.{IsPerformed};
 ghost use Rattle.rv_arch.specs.State.{register_of};
 

@@ -1,5 +1,6 @@
 -- What the turns of the commit phase have taken, with what is still to come, is the definition's commit phase.
-use Rattle.rv_core.proofs.Words.{◌≡◌, ℕ, ◌+◌, ◌*◌, ◌<◌, ◌≤◌, List, [], ◌++◌, length, Some, None, Option, sym, refl, ap, subst}
+use Rattle.rv_core.proofs.Words.{◌≡◌, ℕ, ◌+◌, ◌*◌, ◌<◌, ◌≤◌, List, [], ◌++◌}
+use Rattle.rv_core.proofs.Words.{length, Some, None, Option, sym, refl, ap, subst}
 use Rattle.rv_core.proofs.Words.{◌∙◌, append-nil, arith, length-append, due, Committing, commit}
 use Rattle.rv_core.proofs.Words.{commit_turn, commit_unless, Hardware, Ends, repeated, Step, IsKept, and_step}
 use Rattle.rv_core.proofs.Words.{committing, turn_left, HeadTurn}

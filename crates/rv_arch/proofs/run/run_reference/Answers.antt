@@ -1,5 +1,6 @@
 use Rattle.std.proofs.Common.{refl, sym, arith}
-use Rattle.rv_arch.proofs.RunInvariants.{steps_by, counted_none, counted_more, counted_to_stale, counted_to_breakpoint, counted_to_limit}
+use Rattle.rv_arch.proofs.RunInvariants.{steps_by, counted_none, counted_more, counted_to_stale}
+use Rattle.rv_arch.proofs.RunInvariants.{counted_to_breakpoint, counted_to_limit}
 use Rattle.rv_arch.proofs.Steps.{not_stale}
 use Rattle.rv_arch.proofs.run.run_reference.Goals as goal
 

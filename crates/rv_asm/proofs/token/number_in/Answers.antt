@@ -3,7 +3,8 @@ use Rattle.std.specs.List.{slice_index}
 use Rattle.std.specs.Result.{OkIff}
 use Rattle.std.specs.Str.Parse.{IsNumeral, digits_value, without_leading_plus}
 use Rattle.std.proofs.lemmas.Str.{IsUtf8-from_ascii}
-use Rattle.rv_asm.proofs.TokenNumbers.{digits_are_ascii, first_is, without_plus, plus_is_no_digit, number_in-read, number_in-none, number_in-empty}
+use Rattle.rv_asm.proofs.TokenNumbers.{digits_are_ascii, first_is, without_plus, plus_is_no_digit}
+use Rattle.rv_asm.proofs.TokenNumbers.{number_in-read, number_in-none, number_in-empty}
 use Rattle.rv_asm.proofs.token.number_in.Goals as goal
 
 pub returns-in_err-first : goal.returns-in_err-first

@@ -2,7 +2,8 @@ use Rattle.std.proofs.Common.{◌∙◌, ◌≡◌, None, ap, rules, sym}
 use Rattle.clap.specs.Words.{found_of}
 use Rattle.rv_command.proofs.Numbers.{legal, legal_number, legal_over, legal_under, number_held}
 use Rattle.rv_command.proofs.command.number_given.Goals as goal
-use Rattle.rv_command.proofs.command.number_given.Goals.{else-low-number-via-then-low-number+else-number-high, else-low-number-via-else-low-number}
+use Rattle.rv_command.proofs.command.number_given.Goals.{else-low-number-via-then-low-number+else-number-high}
+use Rattle.rv_command.proofs.command.number_given.Goals.{else-low-number-via-else-low-number}
 
 pub returns-in_err-number-clause-number : goal.returns-in_err-number-clause-number
 returns-in_err-number-clause-number c =

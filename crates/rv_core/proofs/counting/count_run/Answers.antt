@@ -1,5 +1,6 @@
 use Rattle.rv_core.proofs.Words.{◌+◌, ap, ◌∙◌, arith, Exhausted, Limit, None, Progress}
-use Rattle.rv_core.proofs.CountedRun.{HasTaken, counted_to, counted_to_stop, counting_nothing, counting_on, room_to_count, sorts_fit, taken_fit, uncounted}
+use Rattle.rv_core.proofs.CountedRun.{HasTaken, counted_to, counted_to_stop, counting_nothing}
+use Rattle.rv_core.proofs.CountedRun.{counting_on, room_to_count, sorts_fit, taken_fit, uncounted}
 use Rattle.rv_watch.proofs.Shown.{bounded_so_far, so_many_shown}
 use Rattle.rv_core.proofs.Exhausted.{all_done, cycle_left}
 use Rattle.rv_core.proofs.counting.count_run.Goals as goal

@@ -1,5 +1,6 @@
 use Rattle.std.proofs.Common.{◌∙◌}
-use Rattle.rv_decode.proofs.Relation.{instruction_of-Decodes, IfSome-instruction_of, IsNone-instruction_of, FitsOneRowAtMost-table}
+use Rattle.rv_decode.proofs.Relation.{instruction_of-Decodes, IfSome-instruction_of}
+use Rattle.rv_decode.proofs.Relation.{IsNone-instruction_of, FitsOneRowAtMost-table}
 use Rattle.rv_decode.proofs.codec.decode.Goals as goal
 
 pub returns-clause-decoded : goal.returns-clause-decoded

@@ -5,7 +5,8 @@ use Rattle.rv_job.specs.Comparison.{RefusesProgram}
 use Rattle.rv_job.proofs.Compared.{refused_alone}
 use Rattle.rv_job.proofs.HandedOn.{refused_on}
 use Rattle.rv_job.proofs.comparison.load.Goals as goal
-use Rattle.rv_job.proofs.comparison.load.Goals.{else-len-values-via-then-len-values+else-image-eq0, else-len-values-via-else-len-values}
+use Rattle.rv_job.proofs.comparison.load.Goals.{else-len-values-via-then-len-values+else-image-eq0}
+use Rattle.rv_job.proofs.comparison.load.Goals.{else-len-values-via-else-len-values}
 
 pub returns-else-len-values-clause-refused : goal.returns-else-len-values-clause-refused
 returns-else-len-values-clause-refused c =

@@ -1,6 +1,7 @@
 use Rattle.std.proofs.Common.{subst, arith, ◌∙◌, sym}
 use Rattle.std.proofs.lemmas.Bool.{ltb-false, ltb-true}
-use Rattle.rv_job.specs.Comparison.{AreLoaded, RefusesComparison, RefusesDescriptions, RefusesLoading, most_machines, separator_count}
+use Rattle.rv_job.specs.Comparison.{AreLoaded, RefusesComparison, RefusesDescriptions}
+use Rattle.rv_job.specs.Comparison.{RefusesLoading, most_machines, separator_count}
 use Rattle.rv_job.proofs.SeparatorCount.{jobs_few}
 use Rattle.rv_job.proofs.HandedOn.{refused_on}
 use Rattle.rv_job.proofs.comparison.read_comparison.Goals as goal

@@ -2,7 +2,8 @@ use Rattle.std.proofs.Common.{ap, arith}
 use Rattle.rv_isa.specs.declared.values.Values.{Values}
 use Rattle.rv_job.specs.JobRefusal.{unfit}
 use Rattle.rv_job.proofs.job_text.job_of.Goals as goal
-use Rattle.rv_job.proofs.job_text.job_of.Goals.{else-len-values-via-then-len-values+else-image-eq0, else-len-values-via-else-len-values}
+use Rattle.rv_job.proofs.job_text.job_of.Goals.{else-len-values-via-then-len-values+else-image-eq0}
+use Rattle.rv_job.proofs.job_text.job_of.Goals.{else-len-values-via-else-len-values}
 
 pub returns-else-len-values-clause-refused : goal.returns-else-len-values-clause-refused
 returns-else-len-values-clause-refused c = λ text legal described listed assembled.

@@ -1,4 +1,5 @@
-use Rattle.std.proofs.Common.{◌≡◌, ◌∙◌, ℕ, zero, suc, ◌-◌, ◌<◌, ◌≤◌, Bool, true, false, List, refl, sym, ap, arith, rules}
+use Rattle.std.proofs.Common.{◌≡◌, ◌∙◌, ℕ, zero, suc, ◌-◌, ◌<◌, ◌≤◌, Bool}
+use Rattle.std.proofs.Common.{true, false, List, refl, sym, ap, arith, rules}
 use Rattle.std.specs.Prelude.{if◌then◌else◌}
 use Rattle.rv_refusal.specs.TomlFault.{is_toml_up_to, toml_up_to}
 use Rattle.rv_refusal.proofs.toml_fault.toml_up_to.Goals as goal

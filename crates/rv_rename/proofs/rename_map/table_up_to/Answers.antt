@@ -1,4 +1,5 @@
-use Rattle.std.proofs.Common.{◌≡◌, ◌+◌, [], ◌∷◌, drop, take, slice_get, Some, sym, ap, ◌∙◌, arith, append-nil, append_assoc}
+use Rattle.std.proofs.Common.{◌≡◌, ◌+◌, [], ◌∷◌, drop, take, slice_get, Some}
+use Rattle.std.proofs.Common.{sym, ap, ◌∙◌, arith, append-nil, append_assoc}
 use Rattle.std.specs.Option.{option_copied}
 use Rattle.rv_isa.specs.Numbered.{below}
 use Rattle.rv_rename.proofs.Youngest.{IsTable-push}

@@ -1,4 +1,5 @@
-use Rattle.std.proofs.Common.{◌≡◌, ◌∙◌, ◌+◌, ◌<◌, ◌^◌, suc, List, [], ◌∷◌, length, ap, arith, map, refl, rules, subst, sym}
+use Rattle.std.proofs.Common.{◌≡◌, ◌∙◌, ◌+◌, ◌<◌, ◌^◌, suc, List, [], ◌∷◌}
+use Rattle.std.proofs.Common.{length, ap, arith, map, refl, rules, subst, sym}
 use Rattle.std.specs.List.{All}
 use Rattle.rv_sentences.specs.Kinds.{kind_with}
 use Rattle.rv_sentences.specs.declared.{exception.Exception.Exception, series.Series.Series}

@@ -1,4 +1,5 @@
-use Rattle.std.proofs.Common.{◌≡◌, ◌∙◌, ℕ, suc, ◌-◌, ◌≤◌, List, [], ◌∷◌, ◌++◌, length, take, drop, get_or, refl, ap, sym, arith}
+use Rattle.std.proofs.Common.{◌≡◌, ◌∙◌, ℕ, suc, ◌-◌, ◌≤◌, List, [], ◌∷◌, ◌++◌}
+use Rattle.std.proofs.Common.{length, take, drop, get_or, refl, ap, sym, arith}
 use Rattle.std.proofs.Math.Seq.{take-length}
 use Rattle.rv_front.specs.Lesson.{Lesson}
 use Rattle.rv_front.specs.declared.predictors.DescribedPredictor.{DescribedPredictor}

@@ -1,7 +1,8 @@
 use Rattle.std.proofs.Common.{[], ◌∷◌, ◌++◌, ap, get_or}
 use Rattle.std.proofs.lemmas.List.{take_more}
 use Rattle.rv_arch.specs.Run.{is_stale}
-use Rattle.rv_arch.proofs.RunInvariants.{steps_by, went_nowhere, went_more, went_to_stale, again_stale, lines_after_step}
+use Rattle.rv_arch.proofs.RunInvariants.{steps_by, went_nowhere, went_more}
+use Rattle.rv_arch.proofs.RunInvariants.{went_to_stale, again_stale, lines_after_step}
 use Rattle.rv_arch.proofs.Steps.{not_stale}
 use Rattle.rv_arch.proofs.reference.Reference.run_stamps.Goals as goal
 

@@ -1,5 +1,6 @@
 use Rattle.rv_core.proofs.Words.{◌≡◌, Bool, false, filter, is_committed, committing, with_write_back, StaleWords, []}
-use Rattle.rv_core.proofs.Words.{Some, sym, refl, ap, ◌∙◌, subst, true≢false, FenceI, Entry, Hardware, Ends, IsTrue, Queue}
+use Rattle.rv_core.proofs.Words.{Some, sym, refl, ap, ◌∙◌, subst, true≢false}
+use Rattle.rv_core.proofs.Words.{FenceI, Entry, Hardware, Ends, IsTrue, Queue}
 use Rattle.rv_core.proofs.Words.{IsHead, IsSound, hardware_of, Inside}
 use Rattle.rv_core.proofs.Retired.Fence.{fence_waits_for_cache, fence_waits_for_stores, fence_waits_for_port}
 use Rattle.rv_core.proofs.Retired.Fence.{queue_beside_fence, takes_time}

@@ -2,7 +2,8 @@ use Rattle.rv_core.proofs.Words.{◌≡◌, List, slice_get, sym, ap, ◌∙◌,
 use Rattle.rv_core.proofs.Words.{committing}
 use Rattle.std.specs.FinSet as set
 use Rattle.rv_core.specs.HeadTurn.{role_of}
-use Rattle.rv_core.proofs.Retired.Roles.{ends_with_none, first_is_head, kept, turn_of_head, turn_accesses, serialising_waits_not}
+use Rattle.rv_core.proofs.Retired.Roles.{ends_with_none, first_is_head, kept, turn_of_head}
+use Rattle.rv_core.proofs.Retired.Roles.{turn_accesses, serialising_waits_not}
 use Rattle.rv_core.proofs.parts.Parts.serial_head.Goals as goal
 use Rattle.rv_core.proofs.parts.Parts.serial_head.Goals.{After-role_of, In-Some}
 

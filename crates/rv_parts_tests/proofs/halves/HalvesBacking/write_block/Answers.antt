@@ -1,4 +1,5 @@
-use Rattle.std.proofs.Common.{◌≡◌, ℕ, ◌+◌, ◌<◌, ◌≤◌, List, [], ◌∷◌, ◌++◌, length, get_or, set, take, drop, ap, sym, ◌∙◌, arith, length-append, length-take-le}
+use Rattle.std.proofs.Common.{◌≡◌, ℕ, ◌+◌, ◌<◌, ◌≤◌, List, [], ◌∷◌, ◌++◌, length, get_or, set}
+use Rattle.std.proofs.Common.{take, drop, ap, sym, ◌∙◌, arith, length-append, length-take-le}
 use Rattle.std.proofs.lemmas.List.{append_assoc, drop_more, set_at, take_more}
 use Rattle.rv_memory.specs.Bytes.{overwritten}
 use Rattle.rv_parts_tests.proofs.halves.HalvesBacking.write_block.Goals as goal

@@ -1,5 +1,6 @@
 use Rattle.std.proofs.Common.{refl, sym}
-use Rattle.rv_stores.proofs.Retired.{with_oldest_retired-set, with_oldest_retired-same, IsInOrder-retired, ComeFirst-retired}
+use Rattle.rv_stores.proofs.Retired.{with_oldest_retired-set, with_oldest_retired-same}
+use Rattle.rv_stores.proofs.Retired.{IsInOrder-retired, ComeFirst-retired}
 use Rattle.rv_stores.proofs.queue.StoreQueue.commit_oldest.Goals as goal
 
 pub returns-in_default : goal.returns-in_default

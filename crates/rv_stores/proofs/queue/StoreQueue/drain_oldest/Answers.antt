@@ -1,5 +1,6 @@
 use Rattle.std.proofs.Common.{refl, sym}
-use Rattle.rv_stores.proofs.Drained.{with_oldest_draining-set, with_oldest_draining-same, IsInOrder-draining, ComeFirst-draining}
+use Rattle.rv_stores.proofs.Drained.{with_oldest_draining-set, with_oldest_draining-same}
+use Rattle.rv_stores.proofs.Drained.{IsInOrder-draining, ComeFirst-draining}
 use Rattle.rv_stores.proofs.queue.StoreQueue.drain_oldest.Goals as goal
 
 pub returns-in_default : goal.returns-in_default
