@@ -31,6 +31,7 @@ use Rattle.rv_sentences.specs.Kinds.{kept_after, kept_of}
 use Rattle.rv_sentences.specs.LastStore.{last_store_to, stores_in, stores_of}
 use Rattle.rv_sentences.specs.Load.{retired_load_cost}
 use Rattle.rv_explain.specs.Tally.{HasRoom, tally_after, tally_of}
+use Rattle.rv_explain.proofs.LastBefore.{last_before-push}
 use Rattle.rv_counts.specs.Places.{all_places, places_in, places_of}
 use Rattle.rv_sentences.specs.Stay.{all_stays, awaited_of, no_stays, stays_of, with_stays}
 use Rattle.rv_sentences.specs.WordCount.{count_at}
@@ -124,6 +125,7 @@ module _ (values : Values) where
       let old_at = λ (class : Class). count_at (word_in class) left in
       let new_at = λ (class : Class). count_at (word_in class) (now_left ++ left) in
       let exceptions = exceptions-push moments moment in
+      let last_before = last_before-push None moments moment in
       let interrupts = interrupts-push moments moment in
       let stores =
       with_stores_of values (stores_in now.hardware.registers moment.report.steps) (stores_of old.hardware moments) in
@@ -158,6 +160,7 @@ module _ (values : Values) where
       λ i. record {
         retired = retired i;
         exceptions = exceptions i;
+        last_before = last_before i;
         interrupts = interrupts i;
         raised = raised i;
         places = places i;

@@ -16,7 +16,7 @@ use Rattle.rv_source.specs.Listing.{Listed}
 use Rattle.rv_text.specs.Line.{line_of, ratio_text}
 use Rattle.rv_sentences.specs.Dispatch.{dispatches_text}
 use Rattle.rv_sentences.specs.Drain.{drain_text}
-use Rattle.rv_explain.specs.Crash.{crash_text, first_passed_text, lone_crash}
+use Rattle.rv_explain.specs.Crash.{crash_text, first_way_text, lone_crash}
 use Rattle.rv_explain.specs.Ending.{ending_text}
 use Rattle.rv_sentences.specs.Exception.{exceptions_text}
 use Rattle.rv_hardware.specs.History.{Moment, reports_of}
@@ -102,7 +102,8 @@ cost_text listing run =
 -- how a run ended, its exceptions, interrupts and lines never taken, what leads to its cause, and where its cycles went
 unfoldable pub whole_text : Listed → Hardware → Tallied → List ℕ
 whole_text listing h run =
-    ending_text listing run.stop h run.tally.last_stores ++ (first_passed_text listing run.tally.exceptions.all ++
+    ending_text listing run.stop h run.tally.last_stores ++
+    (first_way_text listing run.tally.exceptions.all run.tally.last_before ++
     (exceptions_text listing run.tally.exceptions.all run.tally.exceptions.kinds ++
     (interrupts_text listing run.tally.interrupts ++ (untaken_lines h run.tally ++
     (lead_text listing h run ++ cost_text listing run)))))
@@ -110,7 +111,7 @@ whole_text listing h run =
 -- the sentences on a run, or on the crash that stands alone
 unfoldable pub run_text : Option Exception → Listed → Hardware → Tallied → List ℕ
 run_text None listing h run = whole_text listing h run
-run_text (Some crash) listing h run = crash_text listing crash run.tally.interrupts
+run_text (Some crash) listing h run = crash_text listing crash run.tally.last_before run.tally.interrupts
 
 -- the sentences on a path, where one is shown
 unfoldable pub path_text : Listed → Option Accounted → List ℕ

@@ -36,6 +36,7 @@ use Rattle.rv_sentences.specs.Untaken.{raised_of, raised_with}
 use Rattle.rv_sentences.specs.WordCount.{count_at, with_all, with_one}
 use Rattle.rv_sentences.specs.WordNotes.{notes_of}
 use Rattle.rv_sentences.specs.Work.{both_work, word_in, work_of}
+use Rattle.rv_explain.specs.LastBefore.{last_before_of, last_before_with}
 use Rattle.rv_explain.specs.declared.tally.Tally.{Tally}
 use Rattle.rv_counts.specs.declared.run_places.CyclePlaces.{CyclePlaces}
 use Rattle.rv_sentences.specs.declared.work.Class.TheVariants.{Branch, Mispredicted}
@@ -46,6 +47,7 @@ abbrev pub tally_of : Values → List Arrival → Hardware → List Moment → L
 tally_of values arrivals h moments left = record {
   retired = count_by is_retirement (steps_of (reports_of moments));
   exceptions = kept_of (exceptions_of moments);
+  last_before = last_before_of moments;
   interrupts = by_line (interruptions_of moments);
   raised = raised_of h moments;
   places = places_of h moments;
@@ -82,6 +84,7 @@ abbrev pub tally_after : ℕ → List ℕ → List Step → CyclePlaces → Opti
 tally_after number registers steps places drain lines after rows tally = record {
   retired = tally.retired + count_by is_retirement steps;
   exceptions = kept_after (exception_in after steps) tally.exceptions;
+  last_before = last_before_with tally.exceptions.all steps tally.last_before;
   interrupts = interrupts_after (interruption_in steps) tally.interrupts;
   raised = raised_with number lines tally.raised;
   places = with_cycle places tally.places;

@@ -10,7 +10,7 @@ ghost use Rattle.rv_text.specs.IsText.{IsText};
 ghost use Rattle.rv_text.specs.Said.{Says};
 ghost use Rattle.rv_text.specs.Written.{IsWritten};
 
-use crate::crash::{lone_crash, write_crash, write_first_passed};
+use crate::crash::{lone_crash, write_crash, write_first_way};
 use crate::cycle_places::in_flight;
 use crate::ending::{csr, write_ending};
 use crate::figures::Figures;
@@ -148,7 +148,7 @@ fn write_whole<W: Write>(
 {
     let tally = &run.tally;
     write_ending(out, listing, run.stop, hardware, &tally.last_stores);
-    write_first_passed(out, listing, tally.exceptions.all());
+    write_first_way(out, listing, tally.exceptions.all(), tally.last_before);
     write_exceptions(out, listing, &tally.exceptions);
     write_interrupts(out, listing, &tally.interrupts);
     write_untaken_lines(out, hardware, tally);
@@ -179,7 +179,13 @@ fn write_run<W: Write>(
     ensures { Says W.contents out.old out.new (run_text crash listing.now hardware.now run.now) }
 {
     match crash {
-        Some(crash) => write_crash(out, listing, &crash, &run.tally.interrupts),
+        Some(crash) => write_crash(
+            out,
+            listing,
+            &crash,
+            run.tally.last_before,
+            &run.tally.interrupts,
+        ),
         None => write_whole(out, listing, hardware, run),
     }
 }
@@ -221,18 +227,19 @@ fn write_run_text<W: Write>(
     out.outcome()
 }
 
-/// Runs a pipeline that a predictor guides, each cycle with the lines of its number, up to a breakpoint, a stale word, exhaustion
-/// or so many cycles, and then writes what the run came to, in plain sentences: where a path is shown, its greatest causes with
-/// their lines; how it ended, where and why, and for a stale word the last store to it; its exceptions and interrupts, and the
-/// interrupt lines that are high and were never taken; what instructions in flight waited for most, and what became of most
-/// places for dispatch; the line that was awaited most, and the one that stood longest at the head of the reorder buffer; what
-/// became of all places; where the cycles went; how many dispatched only what did not retire; how many words were fetched and how
-/// many of them squashed; how many branches and jumps retired, and how many of them were mispredicted, with the three lines that
-/// most of those come from; why instructions stayed in flight; what its loads and the drains of its stores cost; and the five
-/// lines that most cycles left at the head of the reorder buffer, or that had flushed it, with their loads and stores. Where the
-/// program crashed, its first exception and the interrupts alone are explained, unless the figures are asked for. The description
-/// says where RAM lies, whose words are counted, and what loads and drains cost. The listing is that of the program, whose lines
-/// are shown. Answers why the run ended.
+/// Runs a pipeline that a predictor guides, each cycle with the lines of its number, up to a breakpoint, a stale word,
+/// exhaustion or so many cycles, and then writes what the run came to, in plain sentences: where a path is shown, its greatest
+/// causes with their lines; how it ended, where and why, and for a stale word the last store to it; how it came to its first
+/// exception, past its last line or out of RAM; its exceptions and interrupts, and the interrupt lines that are high and were
+/// never taken; what instructions in flight waited for most, and what became of most places for dispatch; the line that was
+/// awaited most, and the one that stood longest at the head of the reorder buffer; what became of all places; where the cycles
+/// went; how many dispatched only what did not retire; how many words were fetched and how many of them squashed; how many
+/// branches and jumps retired, and how many of them were mispredicted, with the three lines that most of those come from; why
+/// instructions stayed in flight; what its loads and the drains of its stores cost; and the five lines that most cycles left at
+/// the head of the reorder buffer, or that had flushed it, with their loads and stores. Where the program crashed, its first
+/// exception, how it came there and the interrupts alone are explained, unless the figures are asked for. The description says
+/// where RAM lies, whose words are counted, and what loads and drains cost. The listing is that of the program, whose lines are
+/// shown. Answers why the run ended.
 ///
 /// # Errors
 ///

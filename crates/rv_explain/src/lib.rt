@@ -12,6 +12,7 @@ mod explanation;
 mod figures;
 mod head;
 mod high_lines;
+mod last_before;
 mod running;
 mod tally;
 mod traps;

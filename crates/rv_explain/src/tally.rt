@@ -6,6 +6,7 @@ ghost use Rattle.rv_counts.specs.Places.{cycle_total};
 use crate::at_end::{left_among, without_waiting};
 use crate::head::accounts_of;
 use crate::high_lines::follow_lines;
+use crate::last_before::last_before_with;
 use crate::traps::note_steps;
 use rv_counts::{CyclePlaces, LoadCosts, Places};
 use rv_hardware::Step;
@@ -24,6 +25,8 @@ use std::alloc::{AllocError, Global};
 pub(crate) struct Tally {
     pub(crate) retired: u64,
     pub(crate) exceptions: Exceptions,
+    /// The address of the last instruction that retired before the first exception, if no interrupt came between.
+    pub(crate) last_before: Option<u32>,
     pub(crate) interrupts: Interrupts,
     /// Since when each interrupt line is high.
     pub(crate) raised: Raised,
@@ -67,6 +70,7 @@ impl Tally {
         Ok(Tally {
             retired: 0,
             exceptions: Exceptions::new(alloc)?,
+            last_before: None,
             interrupts: Interrupts::new(),
             raised: Raised::NONE,
             places: Places::NONE,
@@ -121,6 +125,8 @@ impl Tally {
         count_one(&mut self.heads, account);
         self.idle = idle_with(self.idle, account);
         self.flusher = flusher;
+        // Before the exception of the cycle is among them.
+        self.last_before = last_before_with(&self.exceptions, steps, self.last_before);
         let retired = note_steps(&mut self.exceptions, &mut self.interrupts, steps, hardware);
         self.retired += retired as u64;
         follow_lines(&mut self.raised, cycle, lines);

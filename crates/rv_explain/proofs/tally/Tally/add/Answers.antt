@@ -50,6 +50,7 @@ returns c =
     λ i. record {
       retired = before.retired + c.note_steps-retired.ensures.retired i;
       exceptions = c.note_steps-retired.ensures.exceptions i;
+      last_before = c.last_before_with-self.ensures i;
       interrupts = c.note_steps-retired.ensures.interrupts i;
       raised = c.follow_lines.ensures i;
       places = c.add.ensures i;

@@ -13,6 +13,7 @@ pub returns : goal.returns
 returns c arrivals h = λ i. record {
   retired = 0;
   exceptions = c.in_ok-new.ensures i;
+  last_before = None;
   interrupts = c.new-2.ensures i;
   raised = none_raised;
   places = no_places;
