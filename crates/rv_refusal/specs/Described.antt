@@ -1,6 +1,6 @@
 -- Why a description is refused.
 use Rattle.std.specs.Prelude.{ℕ, ◌-◌, ◌==◌, ◌&&◌, Bool, not, List, [], ◌∷◌, ◌++◌}
-use Rattle.std.specs.Prelude.{codes, if◌then◌else◌, is_none, Option, None, unwrap_or}
+use Rattle.std.specs.Prelude.{codes, if◌then◌else◌, is_none, Option, None, option_map, unwrap_or}
 use Rattle.std.specs.{List.list_any, List.slice_get, Option.option_map_or, Option.option_or, Str.bytes_eq}
 use Rattle.rv_isa.specs.declared.keys.Key.{Key}
 use Rattle.rv_isa.specs.Key.{key_place, order, text_of}
@@ -8,6 +8,7 @@ use Rattle.rv_describe.specs.Fault.{place_of}
 use Rattle.rv_describe.specs.declared.description_error.DescriptionError.{DescriptionError}
 use Rattle.rv_describe.specs.declared.description_error.DescriptionError.TheVariants.{NotToml, UnknownKey}
 use Rattle.rv_refusal.specs.Caret.{caret_below}
+use Rattle.rv_refusal.specs.EntryLine.{EntryLine, element_named, first_sought}
 use Rattle.rv_refusal.specs.KeyLine.{KeyLine, first_named, is_none_of}
 use Rattle.rv_refusal.specs.KeyNames.{key_names, keys_named}
 use Rattle.rv_refusal.specs.KeyDefault.{values_line}
@@ -30,11 +31,30 @@ key_at place = if place == 0 then None else slice_get order (place - 1)
 abbrev pub table_of : Key → List ℕ
 table_of key = unwrap_or (key_place key).table []
 
+-- the line on which an array of tables stands
+abbrev pub line_of_array : EntryLine → KeyLine
+line_of_array found =
+    record {
+      number = found.number;
+      line = found.line;
+      before = found.before;
+      key = found.name;
+      name = found.name;
+    }
+
+-- the first line of a description on which the table of a key stands as an array of tables, in two brackets
+abbrev pub array_line : Key → List ℕ → Option KeyLine
+array_line key part =
+    option_map line_of_array (first_sought (λ count line. element_named (table_of key) line) part)
+
+-- the first line of a description on which the table of a key stands, or else that as an array of tables
+unfoldable pub line_of_table : Key → List ℕ → Option KeyLine
+line_of_table key part = option_or (first_named (λ name. bytes_eq name (table_of key)) part) (array_line key part)
+
 -- the first line of a description on which a key stands, or else its table
 unfoldable pub line_of_key : Key → List ℕ → Option KeyLine
 line_of_key key part =
-    option_or (first_named (λ name. bytes_eq name (text_of key)) part)
-    (first_named (λ name. bytes_eq name (table_of key)) part)
+    option_or (first_named (λ name. bytes_eq name (text_of key)) part) (line_of_table key part)
 
 -- a line gives the table of a key a value that is none: it is no line of a table in brackets, and has no brace
 abbrev pub gives_no_table : Key → KeyLine → Bool

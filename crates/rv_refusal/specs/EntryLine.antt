@@ -6,7 +6,7 @@ use Rattle.rv_refusal.specs.KeyLine.{is_none_of}
 use Rattle.rv_job.specs.Parts.{without_mark}
 use Rattle.rv_refusal.specs.NameOn.{NameOn, begins_with, blanks, key_on, name_after, table_on}
 use Rattle.rv_refusal.specs.declared.entry_line.{EntryLine.EntryLine as Found, Sought.Sought}
-use Rattle.rv_refusal.specs.declared.entry_line.Sought.TheVariants.{Entry, Field, Unknown}
+use Rattle.rv_refusal.specs.declared.entry_line.Sought.TheVariants.{Entry, Field, Element, Unknown}
 
 -- a line with its number, how many entries have begun up to it, a name on it, and how many bytes stand before the name
 pub record EntryLine : Type 0 where
@@ -46,6 +46,10 @@ heading_on line = option_or (element_on line) (table_on line)
 abbrev pub entry_on : List ℕ → Option NameOn
 entry_on line = option_and_then (if_passes (λ name. bytes_eq name (codes "arrival"))) (heading_on line)
 
+-- the name of an array of tables of which a line begins an element, if it is this one
+abbrev pub element_named : List ℕ → List ℕ → Option NameOn
+element_named name line = option_and_then (if_passes (λ other. bytes_eq other name)) (element_on line)
+
 -- the name of a field to which a line gives a value, if it is this one
 abbrev pub field_on : List ℕ → List ℕ → Option NameOn
 field_on field line = option_and_then (if_passes (λ name. bytes_eq name field)) (key_on line)
@@ -83,6 +87,7 @@ in_entry entry on count line = if count == entry then on line else None
 abbrev pub sought_on : Sought → ℕ → List ℕ → Option NameOn
 sought_on (Entry entry) count line = in_entry entry entry_on count line
 sought_on (Field entry name) count line = in_entry entry (field_on name.now) count line
+sought_on (Element name) count line = element_named name.now line
 sought_on Unknown count line = unknown_on count line
 
 -- the line with a number, up to which so many entries have begun, with a name on it

@@ -1,12 +1,14 @@
 ghost use Rattle.std.specs.Prelude.{◌≡◌, ◌&&◌, ◌++◌, ◌==◌, IfOk, OnOk, is_none, map, not, option_map};
 ghost use Rattle.std.specs.{List.list_any, Str.bytes_eq};
-ghost use Rattle.rv_refusal.specs.Described.{description_lines, key_at, key_expected, key_hint, key_line_text};
-ghost use Rattle.rv_refusal.specs.Described.{known_expected, line_of_key, table_expected, table_of};
-ghost use Rattle.rv_refusal.specs.Described.{unknown_among, unknown_line, unknown_lines, value_lines};
+ghost use Rattle.rv_refusal.specs.Described.{array_line, description_lines, key_at, key_expected, key_hint};
+ghost use Rattle.rv_refusal.specs.Described.{key_line_text, known_expected, line_of_key, line_of_table};
+ghost use Rattle.rv_refusal.specs.Described.{table_expected, table_of, unknown_among, unknown_line};
+ghost use Rattle.rv_refusal.specs.Described.{unknown_lines, value_lines};
 ghost use Rattle.rv_refusal.specs.KeyLine.{key_line};
 ghost use Rattle.rv_refusal.specs.NameOn.{table_on};
 
 use crate::caret::add_marked_line;
+use crate::entry_line::{Sought, first_sought};
 use crate::key_default::add_values_line;
 use crate::key_line::{KeyLine, Wanted, first_named, full_name};
 use crate::key_names::{key_names, keys_named, text_of};
@@ -49,6 +51,33 @@ fn table_of(key: Key) -> &'static [u8]
     }
 }
 
+// The first line of a description on which the table of a key stands as an array of tables.
+fn array_line(key: Key, part: &[u8]) -> Option<KeyLine<'_>>
+    ensures { option_map key_line result ≡ array_line key part.entry.now }
+{
+    match first_sought(Sought::Element(table_of(key)), part) {
+        Some(found) => Some(KeyLine {
+            number: found.number,
+            line: found.line,
+            before: found.before,
+            table: None,
+            name: found.name,
+        }),
+        None => None,
+    }
+}
+
+// The first line of a description on which the table of a key stands, or else that as an array of tables.
+#[tactic(auto, unfolding(crate::specs::Described::line_of_table))]
+fn line_of_table(alloc: Global, key: Key, part: &[u8]) -> Result<Option<KeyLine<'_>>, AllocError>
+    ensures { IfOk result (λ found. option_map key_line found ≡ line_of_table key part.entry.now) }
+{
+    match first_named(alloc, Wanted::Named(table_of(key)), part) {
+        Ok(None) => Ok(array_line(key, part)),
+        found => found,
+    }
+}
+
 // The first line of a description on which a key stands, or else its table.
 #[tactic(auto, unfolding(crate::specs::Described::line_of_key))]
 fn line_of_key(alloc: Global, key: Key, part: &[u8]) -> Result<Option<KeyLine<'_>>, AllocError>
@@ -56,7 +85,7 @@ fn line_of_key(alloc: Global, key: Key, part: &[u8]) -> Result<Option<KeyLine<'_
 {
     let name = text_of(key);
     match first_named(alloc, Wanted::Named(name), part) {
-        Ok(None) => first_named(alloc, Wanted::Named(table_of(key)), part),
+        Ok(None) => line_of_table(alloc, key, part),
         found => found,
     }
 }

@@ -1,6 +1,7 @@
 ghost use Rattle.std.specs.Prelude.{◌≡◌, ◌<◌, ◌≤◌, ◌+◌, ◌^◌, ◌==◌, codes, map, option_map};
 ghost use Rattle.std.specs.{List.slice_split, Str.bytes_eq};
-ghost use Rattle.rv_refusal.specs.EntryLine.{count_after, element_on, entry_line, entry_on, field_names, field_on};
+ghost use Rattle.rv_refusal.specs.EntryLine.{count_after, element_named, element_on, entry_line, entry_on};
+ghost use Rattle.rv_refusal.specs.EntryLine.{field_names, field_on};
 ghost use Rattle.rv_refusal.specs.EntryLine.{first_from, first_sought, heading_names, heading_on, if_passes};
 ghost use Rattle.rv_refusal.specs.EntryLine.{if_unknown, key_names, sought_line, sought_on, unknown_on};
 ghost use Rattle.rv_refusal.specs.HeldName.{name_in};
@@ -28,6 +29,8 @@ pub(crate) enum Sought<'a> {
     Entry(usize),
     /// The field with this name of the entry with this number.
     Field(usize, &'a [u8]),
+    /// Where an element of the array of tables with this name begins.
+    Element(&'a [u8]),
     /// A name that is not known where it stands.
     Unknown,
 }
@@ -73,6 +76,16 @@ fn entry_on(line: &[u8]) -> Option<NameOn<'_>>
 {
     match heading_on(line) {
         Some(on) => if_same(b"arrival", on),
+        None => None,
+    }
+}
+
+// The name of an array of tables of which a line begins an element, if it is this one.
+fn element_named<'a>(name: &[u8], line: &'a [u8]) -> Option<NameOn<'a>>
+    ensures { option_map name_in result ≡ element_named name.now line.entry.now }
+{
+    match element_on(line) {
+        Some(on) => if_same(name, on),
         None => None,
     }
 }
@@ -158,6 +171,7 @@ fn sought_on<'a>(sought: Sought<'_>, count: usize, line: &'a [u8]) -> Option<Nam
                 None
             }
         }
+        Sought::Element(name) => element_named(name, line),
         Sought::Unknown => unknown_on(count, line),
     }
 }
