@@ -1,8 +1,9 @@
 -- From which token on a line is at fault.
 use denote.Ref.{Bor}
 use Rattle.std.specs.Prelude.{ℕ, ◌-◌, ◌==◌, List, [], ◌∷◌, length, Bool, true, false, not, ◌&&◌, ◌||◌, if◌then◌else◌}
-use Rattle.std.specs.Prelude.{Option, Some, None, codes, drop, option_and_then, option_map, pos, unwrap_or}
-use Rattle.std.specs.{List.before_first, List.find, List.list_all, List.slice_split, Option.option_map_or, Str.bytes_eq}
+use Rattle.std.specs.Prelude.{Option, Some, None, codes, drop, is_none, option_and_then, option_map, pos, unwrap_or}
+use Rattle.std.specs.{List.before_first, List.find, List.list_all, List.slice_split, Option.option_map_or}
+use Rattle.std.specs.{Option.option_or, Str.bytes_eq}
 use Rattle.rv_isa.specs.declared.operations.Width.{Width}
 use Rattle.rv_asm.specs.Layout.{body_of}
 use Rattle.rv_asm.specs.Meaning.{fits_width}
@@ -128,6 +129,34 @@ wrong_value fault defined width (operand ∷ []) = Some operand
 wrong_value fault defined width operands =
     find (λ operand. is_wrong_value fault defined width (operand_at operand)) operands
 
+-- a symbol is written
+abbrev pub is_symbolic : Option Operand → Bool
+is_symbolic (Some (Value (Symbol name))) = true
+is_symbolic (Some (Value (Sum name number))) = true
+is_symbolic _ = false
+
+-- the first operand with a symbol
+abbrev pub first_symbolic : List (List Token) → Option (List Token)
+first_symbolic operands = find (λ operand. is_symbolic (operand_at operand)) operands
+
+-- an operand with a symbol, if none after it has one
+abbrev pub if_last_symbolic : List Token → Option (List Token)
+if_last_symbolic operand = if is_none (first_symbolic (later_operands operand)) then Some operand else None
+
+-- the operand with a symbol, where no other has one
+unfoldable pub only_symbolic : List (List Token) → Option (List Token)
+only_symbolic operands = option_and_then if_last_symbolic (first_symbolic operands)
+
+-- the operand of data whose symbol is out of range, where no number is: it is known where no other has a symbol
+unfoldable pub symbolic_value : AsmFault → List (List Token) → Option (List Token)
+symbolic_value fault.OutOfRange operands = only_symbolic operands
+symbolic_value _ operands = None
+
+-- the operand of data of a width for which a fault is reported, if it is known
+unfoldable pub faulty_value : AsmFault → (List ℕ → Bool) → Width → List (List Token) → Option (List Token)
+faulty_value fault defined width operands =
+    option_or (wrong_value fault defined width operands) (symbolic_value fault operands)
+
 -- the places of so many operands of a form that has the same ones in each statement
 abbrev pub fixed_places : Form → ℕ → List Place
 fixed_places form.Jal count = if count == 1 then place.Target ∷ [] else place.Rd ∷ place.Target ∷ []
@@ -143,7 +172,7 @@ fixed_places _ count = []
 unfoldable pub culprit_of : AsmFault → (List ℕ → Bool) → Form → List Token → Option (List Token)
 culprit_of fault defined (form.Instruction operation first second third) tokens =
     culprit_among fault (first ∷ second ∷ third ∷ []) (operands_on tokens)
-culprit_of fault defined (form.Values width) tokens = wrong_value fault defined width (operands_on tokens)
+culprit_of fault defined (form.Values width) tokens = faulty_value fault defined width (operands_on tokens)
 culprit_of fault defined (form.Bytes directive operand) tokens =
     culprit_among fault (operand ∷ []) (operands_on tokens)
 culprit_of fault defined form tokens =

@@ -5,9 +5,11 @@ ghost use Rattle.rv_asm.specs.Meaning.{fits_width};
 ghost use Rattle.rv_asm.specs.Read.{operand_of, tokens_in};
 ghost use Rattle.rv_asm.specs.Statement.{is_implied};
 ghost use Rattle.rv_refusal.specs.NameSet.{holds};
-ghost use Rattle.rv_refusal.specs.Culprit.{culprit_among, culprit_of, culprit_on, fixed_places};
+ghost use Rattle.rv_refusal.specs.Culprit.{culprit_among, culprit_of, culprit_on, faulty_value, first_symbolic};
+ghost use Rattle.rv_refusal.specs.Culprit.{fixed_places};
 ghost use Rattle.rv_refusal.specs.Culprit.{has_unknown_register, holds_register, holds_value, is_culprit, is_last};
-ghost use Rattle.rv_refusal.specs.Culprit.{is_misfit, is_of_operands, is_past_csrs, is_too_wide, is_undefined};
+ghost use Rattle.rv_refusal.specs.Culprit.{is_misfit, is_of_operands, is_past_csrs, is_symbolic, is_too_wide};
+ghost use Rattle.rv_refusal.specs.Culprit.{is_undefined, only_symbolic, symbolic_value};
 ghost use Rattle.rv_refusal.specs.Culprit.{is_wrong_value, marked, may_be_out_of_range, operand_of_fault};
 ghost use Rattle.rv_refusal.specs.Culprit.{operands_left, operands_on, unless_empty, wrong_value};
 
@@ -211,6 +213,73 @@ fn wrong_value<'t, 'a>(
     None
 }
 
+// Whether a symbol is written.
+fn is_symbolic(written: Option<Operand<'_>>) -> bool
+    ensures { result ≡ is_symbolic (option_map operand_of written.entry) }
+{
+    matches!(
+        written,
+        Some(Operand::Value(Expression::Symbol(_) | Expression::Sum(_, _)))
+    )
+}
+
+// The first operand with a symbol.
+fn first_symbolic<'t, 'a>(operands: Option<&'t [Token<'a>]>) -> Option<&'t [Token<'a>]>
+    ensures { option_map (λ from. tokens_in from.now) result ≡ first_symbolic (operands_left operands.entry) }
+{
+    let mut rest = operands;
+    while let Some(operand) = rest {
+        if is_symbolic(operand_at(operand)) {
+            return Some(operand);
+        }
+        rest = after_operand(operand);
+    }
+    None
+}
+
+// The operand with a symbol, where no other has one.
+#[tactic(auto, unfolding(crate::specs::Culprit::only_symbolic))]
+fn only_symbolic<'t, 'a>(operands: Option<&'t [Token<'a>]>) -> Option<&'t [Token<'a>]>
+    ensures { option_map (λ from. tokens_in from.now) result ≡ only_symbolic (operands_left operands.entry) }
+{
+    let symbolic = first_symbolic(operands)?;
+    match first_symbolic(after_operand(symbolic)) {
+        Some(_) => None,
+        None => Some(symbolic),
+    }
+}
+
+// The operand of data whose symbol is out of range, where no number is: it is known where no other has a symbol.
+#[tactic(auto, unfolding(crate::specs::Culprit::symbolic_value))]
+fn symbolic_value<'t, 'a>(
+    fault: AsmFault,
+    operands: Option<&'t [Token<'a>]>,
+) -> Option<&'t [Token<'a>]>
+    ensures { option_map (λ from. tokens_in from.now) result ≡ symbolic_value fault (operands_left operands.entry) }
+{
+    match fault {
+        AsmFault::OutOfRange => only_symbolic(operands),
+        _ => None,
+    }
+}
+
+// The operand of data of a width for which a fault is reported, if it is known.
+#[tactic(auto, unfolding(crate::specs::Culprit::faulty_value))]
+fn faulty_value<'t, 'a>(
+    fault: AsmFault,
+    defined: &NameSet<'_>,
+    width: Width,
+    operands: Option<&'t [Token<'a>]>,
+) -> Option<&'t [Token<'a>]>
+    ensures { option_map (λ from. tokens_in from.now) result
+        ≡ faulty_value fault (holds defined.now) width (operands_left operands.entry) }
+{
+    match wrong_value(fault, defined, width, operands) {
+        Some(operand) => Some(operand),
+        None => symbolic_value(fault, operands),
+    }
+}
+
 // The places of so many operands of a form that has the same ones in each statement.
 fn fixed_places(form: Form, count: usize) -> &'static [Place]
     ensures { result.now ≡ fixed_places form count }
@@ -247,7 +316,7 @@ fn culprit_of<'t, 'a>(
         Form::Instruction(_, first, second, third) => {
             culprit_among(fault, &[first, second, third], operands)
         }
-        Form::Values(width) => wrong_value(fault, defined, width, operands),
+        Form::Values(width) => faulty_value(fault, defined, width, operands),
         Form::Bytes(_, place) => culprit_among(fault, &[place], operands),
         Form::Nothing | Form::Jal | Form::Jalr | Form::Choice(_) | Form::Global | Form::Constant =>
             { culprit_among(fault, fixed_places(form, piece_count(tokens)), operands) }
