@@ -46,7 +46,7 @@ function makeComparison() {
   const value = (text) => (/^-?\d+(\.\d+)?$/.test(text) ? Number(text) : /^(true|false)$/.test(text) ? text === "true" : plain(text));
   const values = () => byId("sweep-values").value.split(/[\s,]+/).filter(Boolean).map(value);
   byId("sweep").onclick = () => addValues(byId("sweep-key").value, values());
-  byId("sweep-values").onkeydown = (event) => { if (event.key === "Enter") byId("sweep").click(); };
+  byId("sweep-values").onkeydown = (event) => { if (event.key === "Enter" && !event.ctrlKey) byId("sweep").click(); };
   byId("no-machines").onclick = () => { editors.machines.text = ""; jobChanged(); };
 }
 

@@ -137,14 +137,16 @@ async function openFile(file) {
   refuse("");
   const isGreat = file.size > 4 * MOST_TEXT, bytes = isGreat ? new ArrayBuffer(0) : await file.arrayBuffer().catch(() => undefined);
   if (bytes === undefined) return refuse("The file " + file.name + " cannot be read. A folder is no file.");
-  const text = textOf(new Uint8Array(bytes)).replace(/^\ufeff/, "");
+  const text = textOf(new Uint8Array(bytes)).replace(/^\ufeff/, "").replace(/\r\n?/g, "\n");
   const why = isGreat ? counted(file.size, "byte") + " (the page takes " + grouped(MOST_TEXT) + ")" : whyTooLong(text);
+  if (text.includes("\0")) return refuse("The file " + file.name + " was refused: it is no text, since it has a zero byte.");
   if (why !== "") return refuse("The file " + file.name + " was refused: it has " + why + ".");
   another();
+  if (text.includes("\ufffd")) note("The file " + file.name + " is not in UTF-8: what cannot be read stands as \ufffd.");
   exampleName = "";
   byId("examples").selectedIndex = 0;
-  if (/\.toml$/.test(file.name)) return setJob({ ...jobNow(), description: text });
+  if (/\.toml$/i.test(file.name)) return setJob({ ...jobNow(), description: text });
   forget();
-  if (/\.machines$/.test(file.name)) { const both = cutComparison(text); setJob(both.job, both.machines); return chooseView("compare"); }
+  if (/\.machines$/i.test(file.name)) { const both = cutComparison(text); setJob(both.job, both.machines); return chooseView("compare"); }
   setJob(cut(text), "");
 }

@@ -59,12 +59,14 @@ function listExamples() {
 }
 
 function setWide(on) {
+  if (on && byId("job").contains(document.activeElement)) byId("show-job").focus(); // (what is hidden loses the focus)
   document.querySelector("main").classList.toggle("wide", on);
   byId("show-job").setAttribute("aria-pressed", String(!on));
   Object.values(editors).forEach((editor) => editor.draw());
 }
 
 function chooseView(name, isEarly) {
+  isWalking = false;
   if (currentView.name === "steps" && name !== "steps") { seenCycle = undefined; followed = ""; marksPath = false; }
   currentView = viewNamed(name);
   markTab(name);
@@ -116,8 +118,18 @@ function stop() {
 }
 
 function goToFault(part) {
-  const [fault] = editors[part].faults.values();
+  const [fault] = editors[part].faults.values(), isForm = part === "description" && !byId("form").hidden, field = isForm && byId("form").querySelector("[aria-invalid=true]");
+  if (field) return field.focus();
+  if (isForm) setForm(false);
   if (fault) editors[part].goTo(fault.line, fault.from);
+}
+
+// In a narrow window the result stands below the job, at the window's end or past it: who presses the button is led there, or to the fault.
+async function runAndShow() {
+  const running = run();
+  if (byId("result").getBoundingClientRect().top > 0.6 * innerHeight) byId("result").scrollIntoView();
+  await running;
+  PARTS.map((part) => byId("fault-" + part)).find((box) => !box.hidden)?.scrollIntoView({ block: "nearest" });
 }
 
 // An editor draws the lines that are seen: on paper each part stands whole.
@@ -126,14 +138,14 @@ function printParts() {
 }
 
 function listen() {
-  byId("run").onclick = () => run();
+  byId("run").onclick = runAndShow;
   byId("stop").onclick = stop;
   byId("limit").onchange = () => takeLimit(limit());
   byId("share").onclick = copyLink;
   byId("save").onclick = () => save((exampleName.split("/").pop() || "program") + ".job", joined(jobNow()));
   byId("open").onclick = () => byId("file").click();
   byId("file").onchange = () => { if (byId("file").files[0]) openFile(byId("file").files[0]); byId("file").value = ""; };
-  byId("examples").onchange = () => { refuse(""); if (byId("examples").value) { another(); loadExample(byId("examples").value); } };
+  byId("examples").onchange = () => { refuse(""); if (byId("examples").value) { another(); loadExample(byId("examples").value); } else writeAddress(); };
   byId("machine").onchange = () => { const name = byId("machine").value; byId("machine").selectedIndex = 0; another(); loadExample(name); };
   byId("show-job").onclick = () => shortcut("j");
   byId("as-form").onclick = () => setForm(true);
@@ -154,7 +166,7 @@ function listen() {
   addEventListener("beforeunload", (event) => { if (addressed === TOO_LONG) { event.preventDefault(); event.returnValue = true; } });
   addEventListener("keydown", (event) => {
     const key = event.ctrlKey && event.key === "Enter" ? event.key : keyWithAlt(event);
-    if (key) { event.preventDefault(); shortcut(key); }
+    if (key && !byId("about").open) { event.preventDefault(); shortcut(key); }
   });
   addEventListener("dragover", (event) => { if ([...event.dataTransfer.types].includes("Files")) event.preventDefault(); });
   addEventListener("drop", (event) => { if (event.dataTransfer.files.length > 0) { event.preventDefault(); openFile(event.dataTransfer.files[0]); } });

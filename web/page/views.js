@@ -69,7 +69,8 @@ function showTools(view, changed, saved) {
   tools.append(element("button", { type: "button", id: "save-view", textContent: "Save " + view.file.replace(".svg", ""), onclick: saved }));
 }
 
-// The tabs, as a list in which the arrow keys move.
+// The tabs, as a list in which the arrow keys move; who walks there goes on, past the viewer too.
+let isWalking = false;
 function makeTabs(choose) {
   for (const view of VIEWS) {
     const tab = element("button", { type: "button", id: "tab-" + view.name, textContent: view.title, role: "tab", "aria-controls": "shown", onclick: () => choose(view.name) });
@@ -83,6 +84,7 @@ function makeTabs(choose) {
     const tab = tabs[(to + tabs.length) % tabs.length];
     tab.focus();
     tab.click();
+    isWalking = true;
   });
 }
 
