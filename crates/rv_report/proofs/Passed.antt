@@ -6,7 +6,7 @@ use Rattle.std.proofs.Common.{Some, None, refl, sym, ap, subst, arith, inl, inr}
 use Rattle.std.proofs.Common.{eq-eqb, ne_eqb, ltb-true, lt-ltb, length-append, length-drop, not, true≢false}
 use Rattle.std.specs.Prelude.{if◌then◌else◌}
 use Rattle.std.proofs.lemmas.Bool.{cases_Bool, false≢true}
-use Rattle.std.proofs.lemmas.List.{length-map}
+use Rattle.std.proofs.lemmas.List.{drop-map, length-map}
 use Rattle.std.proofs.lemmas.List.Elements.{filter-append}
 use Rattle.std.proofs.lemmas.List.Filters.{length-filter_both}
 use Rattle.std.proofs.lemmas.List.Sums.{count_by-le-length, length-filter, sum_by-cons}
@@ -31,7 +31,7 @@ use Rattle.rv_hardware.specs.declared.step.Step.TheVariants as step
 use Rattle.rv_hardware.proofs.AnyPrediction.{any_cycle}
 use Rattle.rv_hardware.proofs.Each.{Each-weaker}
 use Rattle.rv_hardware.proofs.Marks.History.{Anything, Passed, history_passes, reachable_has_history}
-use Rattle.rv_hardware.proofs.Onward.{cycle-goes_on, fetched-before}
+use Rattle.rv_hardware.proofs.Onward.{cycle-goes_on, fetched-before, left_by-each}
 use Rattle.rv_passage.specs.Passage.{in_buffers, is_in_flight, is_running, is_squash, numbered, of_entry, of_fetched}
 use Rattle.rv_passage.specs.Passage.{is_retirement as has_retired, retired_by, squashed_in, trapped_by}
 use Rattle.rv_passage.specs.Prediction.{differ, is_mispredicted, next_of, prediction_of}
@@ -48,7 +48,8 @@ use Rattle.rv_passage.proofs.Dropped.{buffers-open}
 use Rattle.rv_passage.proofs.InFlight.{length-in_buffers}
 use Rattle.rv_passage.proofs.MovesOn.{MovesOn, as_many-moves, fetched, moves_on, squashed, stands, stays}
 use Rattle.rv_passage.proofs.Numbers.{open-again}
-use Rattle.rv_passage.proofs.Shown.{cycle-shows, hardware-shows}
+use Rattle.rv_passage.proofs.Shown.{cycle-shows, hardware-shows, left-show, numbered-show}
+use Rattle.rv_passage.proofs.Shown.{open-steps, open-with_oldest, shown-flies}
 use Rattle.rv_counts.specs.Counts.{retired_of}
 use Rattle.rv_counts.specs.Left.{left_after, left_in}
 use Rattle.rv_counts.specs.Passing.{has_left}
@@ -122,19 +123,9 @@ length-with change (p ∷ ps) = elim (cases_Bool (is_in_flight p)) [
 ]
 
 module _ (change : Passage → Passage) (ends : (p : Passage) → is_in_flight (change p) ≡ false) where
-  open-with : (ps : List Passage) → filter is_in_flight (with_oldest change ps) ≡ drop 1 (filter is_in_flight ps)
-  open-with [] = refl
-  open-with (p ∷ ps) = elim (cases_Bool (is_in_flight p)) [
-    | inl flies ↦ rw (flies, ends p) refl
-    | inr ended ↦ rw ended (rw ended (open-with ps))
-  ]
-
   predicted-with : (ps : List Passage) → predicted (with_oldest change ps) ≡ drop 1 (predicted ps)
-  predicted-with [] = refl
-  predicted-with (p ∷ ps) = elim (cases_Bool (is_in_flight p)) [
-    | inl flies ↦ rw (flies, ends p) refl
-    | inr ended ↦ rw ended (rw ended (predicted-with ps))
-  ]
+  predicted-with ps =
+      ap (map prediction_of) (open-with_oldest change ends ps) ∙ sym (drop-map prediction_of 1 (filter is_in_flight ps))
 
   module _ (test : Passage → Bool) (fails : Fails test) where
     -- the oldest in flight is so from then on
@@ -278,38 +269,6 @@ ended-steps (step.Trap pc cause value cycle ∷ steps) next t few =
 ended-steps (step.Interrupt pc cause cycle ∷ steps) next t few =
     ended-steps steps next (with_step (step.Interrupt pc cause cycle) (first_pc steps next) t) few
 
-drop-show : {fs : List Flight} {ps : List Passage} → Show fs ps → Show (drop 1 fs) (drop 1 ps)
-drop-show nothing = nothing
-drop-show (more shows rest) = rest
-
--- what is left in flight is shown still
-shows-steps : (steps : List Step) (next : ℕ) (t : Passages) {fs : List Flight} → Show fs (filter is_in_flight t.rows) →
-    Show (left_by steps fs) (filter is_in_flight (with_steps steps next t).rows)
-shows-steps [] next t show = show
-shows-steps (step.Retired row ∷ steps) next t {fs} show =
-    let change = retired_by row t.retired (first_pc steps next) in
-    shows-steps steps next (with_step (step.Retired row) (first_pc steps next) t)
-    (subst (Show (drop 1 fs)) (sym (open-with change (λ p. refl) t.rows)) (drop-show show))
-shows-steps (step.Trap pc cause value cycle ∷ steps) next t {fs} show =
-    shows-steps steps next (with_step (step.Trap pc cause value cycle) (first_pc steps next) t)
-    (subst (Show (drop 1 fs)) (sym (open-with (trapped_by cause cycle) (λ p. refl) t.rows)) (drop-show show))
-shows-steps (step.Interrupt pc cause cycle ∷ steps) next t show =
-    shows-steps steps next (with_step (step.Interrupt pc cause cycle) (first_pc steps next) t) show
-
-drop-before : (cycle : ℕ) (fs : List Flight) → Each (IsFetchedBefore cycle) fs → Each (IsFetchedBefore cycle) (drop 1 fs)
-drop-before cycle [] before = tt
-drop-before cycle (f ∷ fs) before = before.1
-
--- and was fetched before
-before-steps : (cycle : ℕ) (steps : List Step) (fs : List Flight) → Each (IsFetchedBefore cycle) fs →
-    Each (IsFetchedBefore cycle) (left_by steps fs)
-before-steps cycle [] fs before = before
-before-steps cycle (step.Retired row ∷ steps) fs before =
-    before-steps cycle steps (drop 1 fs) (drop-before cycle fs before)
-before-steps cycle (step.Trap pc cause value at ∷ steps) fs before =
-    before-steps cycle steps (drop 1 fs) (drop-before cycle fs before)
-before-steps cycle (step.Interrupt pc cause at ∷ steps) fs before = before-steps cycle steps fs before
-
 -- ---- its end
 
 length-numbered : (number : ℕ) (ps : List Passage) → length (numbered_from number ps) ≡ length ps
@@ -333,14 +292,11 @@ module _ (cycle : ℕ) where
     count_by-le-length (λ (p : Passage). p.fetched == cycle) now,
   )
 
-  flying : {f : Flight} {p : Passage} → Shows f p → is_in_flight p ≡ true
-  flying shows = ap is_running shows.ending
-
   numbered-predicted : (number : ℕ) {fs : List Flight} {ps : List Passage} → Show fs ps →
       predicted (numbered_from number ps) ≡ map prediction_of ps
   numbered-predicted number nothing = refl
   numbered-predicted number (more {p = p} shows rest) =
-      rw (flying shows) (ap (λ l. prediction_of p ∷ l) (numbered-predicted (number + 1) rest))
+      rw (shown-flies shows) (ap (λ l. prediction_of p ∷ l) (numbered-predicted (number + 1) rest))
 
   -- where all that is in flight then was fetched in it, nothing stands
   moved-new : {number : ℕ} {ps now rows : List Passage} {fs : List Flight} → MovesOn cycle number ps now rows →
@@ -392,7 +348,7 @@ module _ (cycle : ℕ) where
       Each (IsFetchedBefore cycle) (o ∷ olds) → Show (o ∷ olds) (p ∷ filter is_in_flight ps) →
       Show (f ∷ news) (n ∷ now) → Moved (p ∷ ps) (n ∷ now) (standing_at older n p ∷ rows)
   next-stands p n older others flies later goes before (more was rest) (more is here) =
-      one-stands p n older (others _ _ goes before.1 rest here) flies (flying is)
+      one-stands p n older (others _ _ goes before.1 rest here) flies (shown-flies is)
       (omega (arith, is.fetched, later.fetched, before.0)) (is.instruction ∙ later.instruction ∙ sym was.instruction)
 
   moved : {number : ℕ} {ps now rows : List Passage} → MovesOn cycle number ps now rows → Moves ps now rows
@@ -418,7 +374,7 @@ module _ (cycle : ℕ) where
       many test (numbered_from number ps) ≡ 0
   many-numbered test fails number nothing = refl
   many-numbered test fails number (more {p = p} shows rest) =
-      rw (fails (numbered number p) (flying shows)) (many-numbered test fails (number + 1) rest)
+      rw (fails (numbered number p) (shown-flies shows)) (many-numbered test fails (number + 1) rest)
 
   many-moved : (test : Passage → Bool) → Fails test → ((p : Passage) → test (squashed_in cycle p) ≡ false) →
       {number : ℕ} {ps now rows : List Passage} {fs : List Flight} → MovesOn cycle number ps now rows → Show fs now →
@@ -431,7 +387,7 @@ module _ (cycle : ℕ) where
   many-moved test fails never (squashed {p} flies none moves) here =
       rw (never p, fails p flies) (many-moved test fails never moves here)
   many-moved test fails never (stands {p} {n} older flies first moves) (more is here) =
-      rw (fails (standing_at older n p) (flying is), fails p flies) (many-moved test fails never moves here)
+      rw (fails (standing_at older n p) (shown-flies is), fails p flies) (many-moved test fails never moves here)
 
   -- what was fetched in it stands in the fetch buffer
   fresh-words : (words : List Fetched) →
@@ -537,9 +493,10 @@ module _ {answers : Answers} {lines : Lines} {old new : Hardware} {report : Repo
   moved_now : Moved number stepped.rows now full.rows
   moved_now = moved number moves _ _
       (subst (λ n. GoOn n (left_by report.steps (flights old)) (flights new)) (sym number_is) (cycle-goes_on passes))
-      (before-steps number report.steps (flights old)
+      (left_by-each (IsFetchedBefore number) report.steps (flights old)
       (subst (λ n. Each (IsFetchedBefore n) (flights old)) (sym number_is) (fetched-before reached)))
-      (shows-steps report.steps new.pc t keeps.shows) (hardware-shows new)
+      (subst (Show (left_by report.steps (flights old))) (sym (open-steps report.steps new.pc t))
+      (left-show report.steps keeps.shows)) (hardware-shows new)
 
   fresh_is : fresh number now ≡ map of_fetched words
   fresh_is =
@@ -681,28 +638,14 @@ numbered-open : (number : ℕ) {fs : List Flight} {ps : List Passage} → Show f
     filter is_in_flight (numbered_from number ps) ≡ numbered_from number ps
 numbered-open number nothing = refl
 numbered-open number (more {p = p} shows rest) =
-    rw (ap is_running shows.ending) (ap (λ l. numbered number p ∷ l) (numbered-open (number + 1) rest))
-
-numbered-shows : (number : ℕ) {fs : List Flight} {ps : List Passage} → Show fs ps → Show fs (numbered_from number ps)
-numbered-shows number nothing = nothing
-numbered-shows number (more shows rest) = more (record {
-  ending = shows.ending;
-  pc = shows.pc;
-  word = shows.word;
-  instruction = shows.instruction;
-  fetched = shows.fetched;
-  dispatched = shows.dispatched;
-  issue = shows.issue;
-  broadcast = shows.broadcast;
-  buffered = shows.buffered;
-}) (numbered-shows (number + 1) rest)
+    rw (shown-flies shows) (ap (λ l. numbered number p ∷ l) (numbered-open (number + 1) rest))
 
 begins : (h : Hardware) → Keeps h (table_at h) (speculated_at h)
 begins h =
     let all = numbered-open 0 (hardware-shows h) in
     record {
       all_open = all;
-      shows = subst (Show (flights h)) (sym all) (numbered-shows 0 (hardware-shows h));
+      shows = numbered-show 0 (hardware-shows h);
       count = length-numbered 0 (in_buffers h.rob h.front) ∙ length-in_buffers h.rob h.front;
       predictions = ap (map prediction_of) (sym all);
     }
