@@ -48,12 +48,7 @@ fn write_went<W: Write>(out: &mut Sink<'_, W>, to: u32)
 }
 
 #[tactic(auto, using(rv_text::proofs::Saying::saying), unfolding(crate::specs::Crash::departure_text))]
-fn write_departure<W: Write>(
-    out: &mut Sink<'_, W>,
-    listing: &Listing,
-    to: u32,
-    from: Option<u32>,
-)
+fn write_departure<W: Write>(out: &mut Sink<'_, W>, listing: &Listing, to: u32, from: Option<u32>)
     ensures { Says W.contents out.old out.new (departure_text listing.now to from) }
 {
     if let Some(from) = from {
