@@ -10,3 +10,5 @@ pub mod LossReasons
 pub mod PlacesGrow
 pub mod PlacesOfCycle
 pub mod FoundCounts
+pub mod Among
+pub mod Mispredicted

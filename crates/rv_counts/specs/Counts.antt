@@ -18,20 +18,28 @@ is_at address p = p.pc == address
 abbrev pub retired_of : List Passage → List Passage
 retired_of passages = filter (λ p. is_retirement p.ending) passages
 
+-- how many of some were squashed
+abbrev pub squashed_among : List Passage → ℕ
+squashed_among passages = count_by (λ p. is_squash p.ending) passages
+
+-- how many of some were mispredicted
+abbrev pub mispredicted_among : List Passage → ℕ
+mispredicted_among passages = count_by is_mispredicted (retired_of passages)
+
 -- what became of the passages at an address, which stood at the head in so many cycles
 abbrev pub counts_of : LoadCosts → ℕ → List Passage → ℕ → WordCounts
 counts_of costs address passages head_cycles = record {
   address = address;
   fetched = length passages;
   retired = length (retired_of passages);
-  squashed = count_by (λ p. is_squash p.ending) passages;
+  squashed = squashed_among passages;
   dispatch = waited (filter_map dispatch_wait (retired_of passages));
   issue = waited (filter_map issue_wait (retired_of passages));
   broadcast = waited (filter_map broadcast_wait (retired_of passages));
   retirement = waited (filter_map retirement_wait (retired_of passages));
   hits = count_by (λ p. is_hit costs (load_cost p)) (retired_of passages);
   misses = count_by (λ p. is_miss costs (load_cost p)) (retired_of passages);
-  mispredicted = count_by is_mispredicted (retired_of passages);
+  mispredicted = mispredicted_among passages;
   head_cycles = head_cycles;
 }
 

@@ -10,6 +10,7 @@ use Rattle.rv_passage.specs.declared.passage.{Ending.Ending, Passage.Passage}
 use Rattle.rv_passage.specs.declared.passage.Ending.TheVariants as ending
 use Rattle.rv_counts.specs.Load.{is_hit}
 use Rattle.rv_counts.specs.declared.loads.LoadCosts.{LoadCosts}
+use Rattle.rv_counts.proofs.Mispredicted.{unretired-right}
 use Rattle.rv_sentences.specs.Load.{loads_of, retired_load_cost}
 use Rattle.rv_sentences.specs.WordCount.{with_all, with_one}
 use Rattle.rv_sentences.specs.WordNotes.{Notes}
@@ -32,7 +33,7 @@ no_branch p flies = rw (unretired p flies) refl
 
 -- nor is it one that was mispredicted
 pub no_mispredicted : (p : Passage) → is_in_flight p ≡ true → word_in Mispredicted p ≡ None
-no_mispredicted p flies = rw (unretired p flies) refl
+no_mispredicted p flies = rw (unretired-right p (unretired p flies)) refl
 
 no_load : (p : Passage) → is_in_flight p ≡ true → retired_load_cost p ≡ None
 no_load p flies = rw (unretired p flies) refl

@@ -16,6 +16,7 @@ use Rattle.rv_hardware.specs.Step.{is_retirement}
 use Rattle.rv_hardware.specs.declared.step.Step.{Step}
 use Rattle.rv_hardware.specs.declared.step.Step.TheVariants.{Retired, Trap, Interrupt}
 use Rattle.rv_passage.specs.Passage.{is_squash}
+use Rattle.rv_passage.specs.Prediction.{is_mispredicted}
 use Rattle.rv_passage.specs.Table.{still_open}
 use Rattle.rv_passage.specs.declared.passage.Passage.{Passage}
 use Rattle.rv_passage.proofs.Walk.{last_cycle}
@@ -36,11 +37,12 @@ use Rattle.rv_counts.specs.Places.{all_places, places_in, places_of}
 use Rattle.rv_sentences.specs.Stay.{all_stays, awaited_of, no_stays, stays_of, with_stays}
 use Rattle.rv_sentences.specs.WordCount.{count_at}
 use Rattle.rv_sentences.specs.WordNotes.{notes_of}
-use Rattle.rv_sentences.specs.Work.{is_mispredicted_branch, is_retired_branch, word_in}
+use Rattle.rv_sentences.specs.Work.{is_retired_branch, word_in}
 use Rattle.rv_sentences.specs.declared.{dispatches.Dispatches.Dispatches, exception.Exception.Exception}
 use Rattle.rv_sentences.specs.declared.{interruption.Interruption.Interruption}
 use Rattle.rv_sentences.specs.declared.work.Class.{Class}
 use Rattle.rv_sentences.specs.declared.work.Class.TheVariants.{Branch, Mispredicted}
+use Rattle.rv_counts.proofs.Mispredicted.{mispredicted-all}
 use Rattle.rv_sentences.proofs.DrainCounts.{drains_by-append, drains_of-le, drains_of-push}
 use Rattle.rv_sentences.proofs.DrainsGrow.{can_count_store, store_counts-push, waiting-push}
 use Rattle.rv_sentences.proofs.CountSums.{counted_within}
@@ -200,7 +202,7 @@ module _ (values : Values) where
       left = omega (arith, fewer, some);
       squashed = omega (arith, count_by-le-length (λ (p : Passage). is_squash p.ending) left, fewer, some);
       branches = omega (arith, count_by-le-length is_retired_branch left, fewer, some);
-      mispredicted = omega (arith, count_by-le-length is_mispredicted_branch left, fewer, some);
+      mispredicted = omega (arith, mispredicted-all left, count_by-le-length is_mispredicted left, fewer, some);
       loads = omega (arith, count_by-le-length (λ p. is_some (retired_load_cost p)) left, fewer, some);
       quick = omega (arith, count_by-le-length (λ p. is_hit (costs_of values) (retired_load_cost p)) left, fewer, some);
       branch_words = omega (arith, counted_within (word_in Branch) values left, fewer, some);

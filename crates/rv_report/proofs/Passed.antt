@@ -3,7 +3,7 @@ use Rattle.std.proofs.Common.{◌≡◌, ◌∙◌, ℕ, suc, ◌+◌, ◌-◌, 
 use Rattle.std.proofs.Common.{nat_lt, Bool, true, false, cond, List, [], ◌∷◌, ◌++◌}
 use Rattle.std.proofs.Common.{length, map, filter, take, drop, count_by, Option}
 use Rattle.std.proofs.Common.{Some, None, refl, sym, ap, subst, arith, inl, inr}
-use Rattle.std.proofs.Common.{eq-eqb, ne_eqb, ltb-true, lt-ltb, length-append, length-drop, not, true≢false}
+use Rattle.std.proofs.Common.{eq-eqb, ne_eqb, ltb-true, lt-ltb, length-append, length-drop, not}
 use Rattle.std.specs.Prelude.{if◌then◌else◌}
 use Rattle.std.proofs.lemmas.Bool.{cases_Bool, false≢true}
 use Rattle.std.proofs.lemmas.List.{drop-map, length-map}
@@ -33,7 +33,7 @@ use Rattle.rv_hardware.proofs.Each.{Each-weaker}
 use Rattle.rv_hardware.proofs.Marks.History.{Anything, Passed, history_passes, reachable_has_history}
 use Rattle.rv_hardware.proofs.Onward.{cycle-goes_on, fetched-before, left_by-each}
 use Rattle.rv_passage.specs.Passage.{in_buffers, is_in_flight, is_running, is_squash, numbered, of_entry, of_fetched}
-use Rattle.rv_passage.specs.Passage.{is_retirement as has_retired, retired_by, squashed_in, trapped_by}
+use Rattle.rv_passage.specs.Passage.{retired_by, squashed_in, trapped_by}
 use Rattle.rv_passage.specs.Prediction.{differ, is_mispredicted, next_of, prediction_of}
 use Rattle.rv_passage.specs.Producers.{standing_at}
 use Rattle.rv_passage.specs.Shown.{Show, Shows, more, nothing}
@@ -50,9 +50,10 @@ use Rattle.rv_passage.proofs.MovesOn.{MovesOn, as_many-moves, fetched, moves_on,
 use Rattle.rv_passage.proofs.Numbers.{open-again}
 use Rattle.rv_passage.proofs.Shown.{cycle-shows, hardware-shows, left-show, numbered-show}
 use Rattle.rv_passage.proofs.Shown.{open-steps, open-with_oldest, shown-flies}
-use Rattle.rv_counts.specs.Counts.{retired_of}
 use Rattle.rv_counts.specs.Left.{left_after, left_in}
 use Rattle.rv_counts.specs.Passing.{has_left}
+use Rattle.rv_counts.proofs.Among.{filter-among}
+use Rattle.rv_counts.proofs.Mispredicted.{differ-none, mispredicted-all}
 use Rattle.rv_counts.proofs.PlacesOfCycle.{placed}
 use Rattle.rv_report.specs.Speculation.{Speculated, fetched_by, in_flight, oldest}
 use Rattle.rv_report.specs.Speculation.{prediction_of_word, speculated_after, speculated_at}
@@ -100,10 +101,6 @@ unsquashed p flies = running p.ending flies where
   running (ending.Retired order cycle written next) flies = refl
   running (ending.Trapped cycle cause) flies = refl
   running (ending.Squashed cycle) flies = absurd (false≢true flies)
-
-differ-none : (prediction : Option ℕ) → differ prediction None ≡ false
-differ-none None = refl
-differ-none (Some predicted) = refl
 
 unmissed : Fails is_mispredicted
 unmissed p flies = ap (differ (prediction_of p)) (running p.ending flies) ∙ differ-none (prediction_of p) where
@@ -422,21 +419,10 @@ module _ (test : Passage → Bool) where
   many-append some others =
       ap length (filter-append test some others) ∙ length-append (filter test some) (filter test others)
 
-  -- among those that pass, as many are so as among all, where none is so that does not pass
-  many-within : (passes : Passage → Bool) → ((p : Passage) → passes p ≡ false → test p ≡ false) →
-      (ps : List Passage) → many test (filter passes ps) ≡ many test ps
-  many-within passes fails [] = refl
-  many-within passes fails (p ∷ ps) = elim (cases_Bool (passes p)) [
-    | inl holds ↦ elim (cases_Bool (test p)) [
-      | inl is ↦ rw holds (rw is (ap suc (many-within passes fails ps)))
-      | inr fails_here ↦ rw holds (rw fails_here (many-within passes fails ps))
-    ]
-    | inr fails_here ↦ rw (fails_here, fails p fails_here) (many-within passes fails ps)
-  ]
-
   module _ (fails : Fails test) where
+    -- none is so that did not leave
     many-left : (ps : List Passage) → many test (filter has_left ps) ≡ many test ps
-    many-left = many-within has_left (λ p here. fails p (flies (is_in_flight p) here)) where
+    many-left ps = ap length (filter-among has_left test (λ p here. fails p (flies (is_in_flight p) here)) ps) where
       flies : (is : Bool) → not is ≡ false → is ≡ true
       flies true here = refl
       flies false here = sym here
@@ -650,14 +636,6 @@ begins h =
       predictions = ap (map prediction_of) (sym all);
     }
 
-unretired : (p : Passage) → has_retired p.ending ≡ false → is_mispredicted p ≡ false
-unretired p other = ap (differ (prediction_of p)) (none p.ending other) ∙ differ-none (prediction_of p) where
-  none : (e : Ending) → has_retired e ≡ false → next_of e ≡ None
-  none ending.InFlight other = refl
-  none (ending.Retired order cycle written next) other = absurd (true≢false other)
-  none (ending.Trapped cycle cause) other = refl
-  none (ending.Squashed cycle) other = refl
-
 -- what a run lost by what was counted of it is what its passages say
 pub losses-passed : {arrivals : List Arrival} {old new : GuidedHardware} {moments : List Moment} → Reachable old.hardware →
     History arrivals old moments new → new.hardware.cycle ≤ 2 ^ 40 →
@@ -675,8 +653,8 @@ losses-passed {old = old} {new} {moments} reached passes within =
       counted.0.mispredicted,
       many-append is_mispredicted kept left,
       none-open counted.1 is_mispredicted unmissed,
-      many-within is_mispredicted (λ (p : Passage). has_retired p.ending) unretired (kept ++ left),
-      length-filter is_mispredicted (retired_of (kept ++ left)),
+      length-filter is_mispredicted (kept ++ left),
+      mispredicted-all (kept ++ left),
     ) in
     let squashed : (losses_with (speculated_in (speculated_at old.hardware) moments) (counts_of (steps_of (reports_of moments)))
     (in_flight new.hardware.rob new.hardware.front)).squashed ≡ losses.squashed = omega (

@@ -3,10 +3,8 @@ use Rattle.std.specs.Prelude.{◌≡◌, ℕ, ◌+◌, ◌-◌, ◌*◌, ◌≤�
 use Rattle.std.specs.Option.{option_map}
 use Rattle.rv_watch.specs.Watching.{Watched}
 use Rattle.rv_passage.specs.declared.passage.Passage.{Passage}
-use Rattle.rv_counts.specs.Counts.{counts_of as counts_of_words}
+use Rattle.rv_counts.specs.Counts.{mispredicted_among, squashed_among}
 use Rattle.rv_counts.specs.Left.{passages_of_run}
-use Rattle.rv_counts.specs.Load.{costs_of}
-use Rattle.rv_counts.specs.declared.loads.LoadCosts.{LoadCosts}
 use Rattle.rv_counts.specs.Places.{AddUp, run_places}
 use Rattle.rv_counts.specs.declared.run_places.RunPlaces.{RunPlaces}
 use Rattle.rv_hardware.specs.Draining.{drain_end}
@@ -26,16 +24,16 @@ losses_with s counts left = record {
   squashed = s.fetched - (counts.retired + counts.traps + left);
 }
 
--- what a profile counts of instructions as if all had one address
-abbrev pub losses_in : LoadCosts → List Passage → Losses
-losses_in costs passages = record {
-  mispredicted = (counts_of_words costs 0 passages 0).mispredicted;
-  squashed = (counts_of_words costs 0 passages 0).squashed;
+-- what a profile counts of instructions, of all addresses
+abbrev pub losses_in : List Passage → Losses
+losses_in passages = record {
+  mispredicted = mispredicted_among passages;
+  squashed = squashed_among passages;
 }
 
 -- what cycles lost from some hardware on: so much of all instructions that were in flight or fetched
 abbrev pub losses_of : Hardware → List Moment → Losses
-losses_of first moments = losses_in (costs_of first.values) (passages_of_run first moments)
+losses_of first moments = losses_in (passages_of_run first moments)
 
 -- the cycles so far are counted, and no count is greater than they can make it
 pub record IsTallied (counts : StepCounts) (s : Speculated) (events : EventCounter) (seen : Watched) : Type 0 where

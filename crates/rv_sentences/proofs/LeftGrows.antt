@@ -5,8 +5,9 @@ use Rattle.std.proofs.lemmas.List.Elements.{filter-append}
 use Rattle.std.proofs.lemmas.List.Sums.{length-filter, sum_by_push}
 use Rattle.rv_memory.specs.Memory.{word_of}
 use Rattle.rv_passage.specs.Passage.{is_squash}
+use Rattle.rv_passage.specs.Prediction.{is_mispredicted}
 use Rattle.rv_passage.specs.declared.passage.Passage.{Passage}
-use Rattle.rv_counts.specs.Counts.{one_more}
+use Rattle.rv_counts.specs.Counts.{mispredicted_among, one_more, squashed_among}
 use Rattle.rv_counts.specs.Load.{is_hit}
 use Rattle.rv_counts.specs.Passing.{has_left}
 use Rattle.rv_counts.specs.declared.loads.LoadCosts.{LoadCosts}
@@ -16,7 +17,7 @@ use Rattle.rv_sentences.specs.Load.{loads_of, loads_with, retired_load_cost}
 use Rattle.rv_sentences.specs.Outcome.{outcomes_with, with_passages}
 use Rattle.rv_sentences.specs.WordCount.{with_one}
 use Rattle.rv_sentences.specs.WordNotes.{Notes, with_change}
-use Rattle.rv_sentences.specs.Work.{both_work, is_mispredicted_branch, is_retired_branch, word_in, work_of, work_with}
+use Rattle.rv_sentences.specs.Work.{both_work, is_retired_branch, word_in, work_of, work_with}
 use Rattle.rv_sentences.specs.declared.{accesses.Accesses.Accesses, outcomes.Outcomes.Outcomes, work.Work.Work}
 use Rattle.rv_sentences.specs.declared.work.Class.TheVariants.{Branch, Mispredicted}
 use Rattle.rv_counts.proofs.Rooms.{one_more-within}
@@ -33,10 +34,11 @@ counted-last : (test : Passage → Bool) (ps : List Passage) (p : Passage) (n : 
 counted-last test ps p n =
     one_more-counted (test p) n (count_by test ps) ∙ ap (λ m. n + m) (sym (sum_by_push (λ (q : Passage). cond (test q) 1 0) ps p))
 
--- where a test is of what left the hardware alone
-module _ (test : Passage → Bool) (same : (ps : List Passage) → count_by test (filter has_left ps) ≡ count_by test ps) where
+-- where a count of what left the hardware is one of all that pass a test
+module _ (count : List Passage → ℕ) (test : Passage → Bool)
+    (same : (ps : List Passage) → count (filter has_left ps) ≡ count_by test ps) where
   counted_left-last : (ps : List Passage) (p : Passage) (n : ℕ) →
-      one_more (test p) n + count_by test (filter has_left ps) ≡ n + count_by test (filter has_left (ps ++ p ∷ []))
+      one_more (test p) n + count (filter has_left ps) ≡ n + count (filter has_left (ps ++ p ∷ []))
   counted_left-last ps p n =
       ap (λ m. one_more (test p) n + m) (same ps) ∙ counted-last test ps p n ∙ ap (λ m. n + m) (sym (same (ps ++ p ∷ [])))
 
@@ -51,9 +53,9 @@ pub work-last : (ps : List Passage) (p : Passage) (work : Work) →
     ≡ both_work work (work_of (filter has_left (ps ++ p ∷ [])))
 work-last ps p work =
     let left = left-last ps p work.left in
-    let squashed = counted_left-last (λ q. is_squash q.ending) squashed_left ps p work.squashed in
-    let branches = counted_left-last is_retired_branch branches_left ps p work.branches in
-    let mispredicted = counted_left-last is_mispredicted_branch mispredicted_left ps p work.mispredicted in
+    let squashed = counted_left-last squashed_among (λ q. is_squash q.ending) squashed_left ps p work.squashed in
+    let branches = counted_left-last (count_by is_retired_branch) is_retired_branch branches_left ps p work.branches in
+    let mispredicted = counted_left-last mispredicted_among is_mispredicted mispredicted_left ps p work.mispredicted in
     λ i. record { left = left i; squashed = squashed i; branches = branches i; mispredicted = mispredicted i }
 
 pub loads-last : (costs : LoadCosts) (ps : List Passage) (p : Passage) (loads : Accesses) →
@@ -136,7 +138,7 @@ module _ (costs : LoadCosts) (p : Passage) (counts : Counts) (fewer more : ℕ) 
     left = omega (arith, under, can.left, one_more-within (has_left p) counts.work.left);
     squashed = omega (arith, under, can.squashed, one_more-within (is_squash p.ending) counts.work.squashed);
     branches = omega (arith, under, can.branches, one_more-within (is_retired_branch p) counts.work.branches);
-    mispredicted = omega (arith, under, can.mispredicted, one_more-within (is_mispredicted_branch p) counts.work.mispredicted);
+    mispredicted = omega (arith, under, can.mispredicted, one_more-within (is_mispredicted p) counts.work.mispredicted);
     loads = omega (arith, under, can.loads, one_more-within (is_some (retired_load_cost p)) counts.loads.all);
     quick = omega (arith, under, can.quick, one_more-within (is_hit costs (retired_load_cost p)) counts.loads.quick);
     branch_words = omega (arith, under, can.branch_words, sum_with_one (word_in Branch p) counts.branches);

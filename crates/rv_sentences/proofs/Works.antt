@@ -2,17 +2,21 @@
 use Rattle.std.proofs.Common.{◌≡◌, ◌∙◌, ℕ, ◌+◌, Bool, true, false, List, [], ◌∷◌, ◌++◌, length}
 use Rattle.std.proofs.Common.{filter, count_by, cond, refl, ap, sym, arith, length-append}
 use Rattle.std.specs.Prelude.{is_some, not}
-use Rattle.std.proofs.lemmas.List.Sums.{sum_by-append, sum_by-cons}
+use Rattle.std.proofs.lemmas.List.Sums.{sum_by-append}
 use Rattle.rv_passage.specs.Passage.{is_retirement, is_running, is_squash}
+use Rattle.rv_passage.specs.Prediction.{is_mispredicted}
 use Rattle.rv_passage.specs.declared.passage.{Ending.Ending, Passage.Passage}
 use Rattle.rv_passage.specs.declared.passage.Ending.TheVariants as ending
+use Rattle.rv_counts.specs.Counts.{mispredicted_among}
 use Rattle.rv_counts.specs.Load.{is_hit}
 use Rattle.rv_counts.specs.Passing.{has_left}
 use Rattle.rv_counts.specs.declared.loads.LoadCosts.{LoadCosts}
+use Rattle.rv_counts.proofs.Among.{count-among}
+use Rattle.rv_counts.proofs.Mispredicted.{mispredicted-all, unretired-right}
 use Rattle.rv_sentences.specs.Access.{both}
 use Rattle.rv_sentences.specs.Load.{loads_of, retired_load_cost}
 use Rattle.rv_sentences.specs.WordCount.{count_at, is_word}
-use Rattle.rv_sentences.specs.Work.{both_work, is_mispredicted_branch, is_of, is_retired_branch, word_in, work_of}
+use Rattle.rv_sentences.specs.Work.{both_work, is_of, is_retired_branch, word_in, work_of}
 use Rattle.rv_sentences.specs.declared.work.Class.{Class}
 use Rattle.rv_sentences.specs.declared.work.Class.TheVariants.{Branch, Mispredicted}
 
@@ -36,41 +40,26 @@ unretired p is = unretired_by p.ending is
 pub unsquashed : (p : Passage) → has_left p ≡ false → is_squash p.ending ≡ false
 unsquashed p is = unsquashed_by p.ending is
 
--- where a test is of what left the hardware alone, what is in flight can be counted with it
-module _ (test : Passage → Bool) (none : (p : Passage) → has_left p ≡ false → test p ≡ false) where
-  count_cons : (p : Passage) (ps : List Passage) → count_by test (p ∷ ps) ≡ cond (test p) 1 0 + count_by test ps
-  count_cons p ps = sum_by-cons (λ (q : Passage). cond (test q) 1 0) p ps
-
-  by_left : (p : Passage) (ps : List Passage) (is : Bool) → has_left p ≡ is →
-      count_by test (filter has_left ps) ≡ count_by test ps →
-      count_by test (filter has_left (p ∷ ps)) ≡ count_by test (p ∷ ps)
-  by_left p ps true is rest = rw is (count_cons p (filter has_left ps) ∙ ap (λ n. cond (test p) 1 0 + n) rest ∙ sym (count_cons p ps))
-  by_left p ps false is rest =
-      let same : count_by test (p ∷ ps) ≡ count_by test ps = count_cons p ps ∙ ap (λ t. cond t 1 0 + count_by test ps) (none p is) ∙ omega arith in
-      rw is (rest ∙ sym same)
-
-  pub count-left : (ps : List Passage) → count_by test (filter has_left ps) ≡ count_by test ps
-  count-left [] = refl
-  count-left (p ∷ ps) = by_left p ps (has_left p) refl (count-left ps)
-
 -- those that were squashed left the hardware
 pub squashed_left : (ps : List Passage) →
     count_by (λ (p : Passage). is_squash p.ending) (filter has_left ps)
     ≡ count_by (λ (p : Passage). is_squash p.ending) ps
-squashed_left ps = count-left (λ p. is_squash p.ending) unsquashed ps
+squashed_left ps = count-among has_left (λ p. is_squash p.ending) unsquashed ps
 
 -- so did the branches and jumps that retired
 pub branches_left : (ps : List Passage) → count_by is_retired_branch (filter has_left ps) ≡ count_by is_retired_branch ps
-branches_left ps = count-left is_retired_branch (λ p is. rw (unretired p is) refl) ps
+branches_left ps = count-among has_left is_retired_branch (λ p is. rw (unretired p is) refl) ps
 
 -- and those that were mispredicted
-pub mispredicted_left : (ps : List Passage) → count_by is_mispredicted_branch (filter has_left ps) ≡ count_by is_mispredicted_branch ps
-mispredicted_left ps = count-left is_mispredicted_branch (λ p is. rw (unretired p is) refl) ps
+pub mispredicted_left : (ps : List Passage) → mispredicted_among (filter has_left ps) ≡ count_by is_mispredicted ps
+mispredicted_left ps =
+    mispredicted-all (filter has_left ps)
+    ∙ count-among has_left is_mispredicted (λ p is. unretired-right p (unretired p is)) ps
 
 loads_left : (costs : LoadCosts) (ps : List Passage) → loads_of costs ps ≡ loads_of costs (filter has_left ps)
 loads_left costs ps =
-    let all = count-left (λ p. is_some (retired_load_cost p)) (λ p is. rw (unretired p is) refl) ps in
-    let quick = count-left (λ p. is_hit costs (retired_load_cost p)) (λ p is. rw (unretired p is) refl) ps in
+    let all = count-among has_left (λ p. is_some (retired_load_cost p)) (λ p is. rw (unretired p is) refl) ps in
+    let quick = count-among has_left (λ p. is_hit costs (retired_load_cost p)) (λ p is. rw (unretired p is) refl) ps in
     λ i. record { all = sym all i; quick = sym quick i }
 
 -- some more left the hardware
@@ -85,7 +74,13 @@ work-left new old =
     let left : length old + length new ≡ length (new ++ old) = omega (arith, length-append new old) in
     let squashed = count-appended (λ p. is_squash p.ending) new old in
     let branches = count-appended is_retired_branch new old in
-    let mispredicted = count-appended is_mispredicted_branch new old in
+    let mispredicted : mispredicted_among old + mispredicted_among new ≡ mispredicted_among (new ++ old) = omega (
+      arith,
+      mispredicted-all old,
+      mispredicted-all new,
+      mispredicted-all (new ++ old),
+      count-appended is_mispredicted new old,
+    ) in
     λ i. record { left = left i; squashed = squashed i; branches = branches i; mispredicted = mispredicted i }
 
 -- the loads
@@ -102,7 +97,7 @@ words-left : (class : Class) (none : (p : Passage) → has_left p ≡ false → 
 words-left class none rows old word =
     let test : Passage → Bool = λ p. is_word word (word_in class p) in
     sym (count-appended test (filter has_left rows) old)
-    ∙ ap (λ n. count_at (word_in class) old word + n) (count-left test (λ p is. rw (none p is) refl) rows)
+    ∙ ap (λ n. count_at (word_in class) old word + n) (count-among has_left test (λ p is. rw (none p is) refl) rows)
 
 -- the branches and jumps at a word
 pub branch_words-left : (rows old : List Passage) (word : ℕ)
@@ -113,4 +108,4 @@ branch_words-left = words-left Branch (λ p is. rw (unretired p is) refl)
 pub mispredicted_words-left : (rows old : List Passage) (word : ℕ)
     → count_at (word_in Mispredicted) (filter has_left rows ++ old) word
     ≡ count_at (word_in Mispredicted) old word + count_at (word_in Mispredicted) rows word
-mispredicted_words-left = words-left Mispredicted (λ p is. rw (unretired p is) refl)
+mispredicted_words-left = words-left Mispredicted (λ p is. unretired-right p (unretired p is))

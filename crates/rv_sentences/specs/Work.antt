@@ -6,7 +6,7 @@ use Rattle.rv_memory.specs.Memory.{word_of}
 use Rattle.rv_passage.specs.Passage.{is_retirement, is_squash}
 use Rattle.rv_passage.specs.Prediction.{is_mispredicted}
 use Rattle.rv_passage.specs.declared.passage.Passage.{Passage}
-use Rattle.rv_counts.specs.Counts.{one_more}
+use Rattle.rv_counts.specs.Counts.{mispredicted_among, one_more, squashed_among}
 use Rattle.rv_counts.specs.Passing.{has_left}
 use Rattle.rv_sentences.specs.Stack.{parts_of}
 use Rattle.rv_sentences.specs.declared.work.{Class.Class, Work.Work}
@@ -16,26 +16,22 @@ use Rattle.rv_sentences.specs.declared.work.Class.TheVariants.{Branch, Mispredic
 abbrev pub is_retired_branch : Passage → Bool
 is_retired_branch p = is_retirement p.ending && is_branch_or_jump p.instruction
 
--- one retired that was mispredicted
-abbrev pub is_mispredicted_branch : Passage → Bool
-is_mispredicted_branch p = is_retired_branch p && is_mispredicted p
-
 -- a fetched word is of a class
 abbrev pub is_of : Class → Passage → Bool
 is_of Branch p = is_retired_branch p
-is_of Mispredicted p = is_mispredicted_branch p
+is_of Mispredicted p = is_mispredicted p
 
 -- the word of RAM that a fetched word is, if it is of a class
 abbrev pub word_in : Class → Passage → Option ℕ
 word_in class p = if is_of class p then Some (word_of p.pc) else None
 
--- of some instructions that left the hardware
+-- of some instructions that left the hardware: squashed and mispredicted is what a profile counts so
 abbrev pub work_of : List Passage → Work
 work_of passages = record {
   left = length passages;
-  squashed = count_by (λ p. is_squash p.ending) passages;
+  squashed = squashed_among passages;
   branches = count_by is_retired_branch passages;
-  mispredicted = count_by is_mispredicted_branch passages;
+  mispredicted = mispredicted_among passages;
 }
 
 -- that of some instructions and of others
@@ -53,7 +49,7 @@ work_with p work = record {
   left = one_more (has_left p) work.left;
   squashed = one_more (is_squash p.ending) work.squashed;
   branches = one_more (is_retired_branch p) work.branches;
-  mispredicted = one_more (is_mispredicted_branch p) work.mispredicted;
+  mispredicted = one_more (is_mispredicted p) work.mispredicted;
 }
 
 -- a number of tenths of a percent, in brackets at the end of a line

@@ -1,6 +1,6 @@
 ghost use Rattle.std.specs.Prelude.{◌≡◌, ◌+◌, ◌<◌, ◌^◌};
-ghost use Rattle.rv_sentences.specs.Work.{branches_text, is_mispredicted_branch, is_of};
-ghost use Rattle.rv_sentences.specs.Work.{is_retired_branch, part_text, word_in, work_text, work_with};
+ghost use Rattle.rv_sentences.specs.Work.{branches_text, is_of, is_retired_branch, part_text};
+ghost use Rattle.rv_sentences.specs.Work.{word_in, work_text, work_with};
 ghost use Rattle.rv_text.specs.Said.{Says};
 
 use crate::outcomes::one_more;
@@ -30,12 +30,6 @@ fn is_retired_branch(passage: &Passage) -> bool
     has_retired(passage) && passage.instruction.is_branch_or_jump()
 }
 
-fn is_mispredicted_branch(passage: &Passage) -> bool
-    ensures { result ≡ is_mispredicted_branch passage.now }
-{
-    is_retired_branch(passage) && passage.is_mispredicted()
-}
-
 /// A class of instructions that retired.
 #[derive(Clone, Copy)]
 pub enum Class {
@@ -51,7 +45,7 @@ fn is_of(class: Class, passage: &Passage) -> bool
 {
     match class {
         Class::Branch => is_retired_branch(passage),
-        Class::Mispredicted => is_mispredicted_branch(passage),
+        Class::Mispredicted => passage.is_mispredicted(),
     }
 }
 
@@ -86,7 +80,7 @@ impl Work {
         self.left = one_more(!row.is_in_flight(), self.left);
         self.squashed = one_more(was_squashed(row), self.squashed);
         self.branches = one_more(is_retired_branch(row), self.branches);
-        self.mispredicted = one_more(is_mispredicted_branch(row), self.mispredicted);
+        self.mispredicted = one_more(row.is_mispredicted(), self.mispredicted);
     }
 }
 
