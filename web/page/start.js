@@ -129,7 +129,7 @@ async function runAndShow() {
   const running = run();
   if (byId("result").getBoundingClientRect().top > 0.6 * innerHeight) byId("result").scrollIntoView();
   await running;
-  PARTS.map((part) => byId("fault-" + part)).find((box) => !box.hidden)?.scrollIntoView({ block: "nearest" });
+  PARTS.map((part) => byId("fault-" + part)).find((box) => !box.hidden)?.scrollIntoView({ block: "center" });
 }
 
 // An editor draws the lines that are seen: on paper each part stands whole.
