@@ -96,7 +96,7 @@ fn also_is_refused(rt: &impl Abort, alloc: Global, texts: &[&str]) -> Result<(),
 
 #[test]
 fn a_machine_is_tried_with_four_values_of_a_users_own_at_most(rt: HostRuntime) -> Result<(), Fail> {
-    static NO_VALUES: [&str; 20] = [
+    static NO_VALUES: [&str; 23] = [
         "rob",
         "rob=",
         "=64",
@@ -108,6 +108,7 @@ fn a_machine_is_tried_with_four_values_of_a_users_own_at_most(rt: HostRuntime) -
         "rob=0",
         "rob=257",
         "rob=true",
+        "rob=\"8\"",
         "cache.line=48",
         "ram_base=4096",
         "ram_size=8192",
@@ -116,6 +117,8 @@ fn a_machine_is_tried_with_four_values_of_a_users_own_at_most(rt: HostRuntime) -
         "report.dump_address=4",
         "report.dump_words=1",
         "div.pipelined=yes",
+        "div.pipelined=1",
+        "recovery=\"early\"",
         "predictor.kind=perceptron",
     ];
     static REFUSED: [&[&str]; 4] = [
