@@ -1,5 +1,4 @@
 use Rattle.std.proofs.Common.{◌≡◌, ◌||◌, ℕ, List, drop, map}
-use Rattle.std.specs.{List.list_any, Str.bytes_eq}
 use Rattle.rv_refusal.specs.NameSet.{holds, is_one_of}
 use Rattle.rv_refusal.proofs.name_set.NameSet.of.Given as goal
 
