@@ -1,19 +1,20 @@
 -- From which token on a line is at fault.
 use denote.Ref.{Bor}
 use Rattle.std.specs.Prelude.{ℕ, ◌-◌, ◌==◌, List, [], ◌∷◌, length, Bool, true, false, not, ◌&&◌, ◌||◌, if◌then◌else◌}
-use Rattle.std.specs.Prelude.{Option, Some, None, codes, drop, is_none, option_and_then, option_map, pos, unwrap_or}
+use Rattle.std.specs.Prelude.{◌≡◌, Option, Some, None, drop, is_none, option_and_then, option_map, pos, unwrap_or}
 use Rattle.std.specs.{List.before_first, List.find, List.list_all, List.slice_split, Option.option_map_or}
-use Rattle.std.specs.{Option.option_or, Str.bytes_eq}
+use Rattle.std.specs.Option.{option_or}
 use Rattle.rv_isa.specs.declared.operations.Width.{Width}
 use Rattle.rv_asm.specs.Layout.{body_of}
 use Rattle.rv_asm.specs.Meaning.{fits_width}
 use Rattle.rv_asm.specs.Mnemonic.{form_named}
 use Rattle.rv_asm.specs.Names.{register_named}
 use Rattle.rv_asm.specs.Operand.{Operand, Value, Indirect, Number, Symbol, Sum, is_comma, operand}
-use Rattle.rv_asm.specs.Read.{tokens_in}
+use Rattle.rv_asm.specs.Read.{operand_of, tokens_in}
 use Rattle.rv_asm.specs.Statement.{is_between, is_implied, takes}
 use Rattle.rv_asm.specs.Token.{Token}
 use Rattle.rv_asm.specs.Token as token
+use Rattle.rv_asm.specs.declared.operand.Operand as program
 use Rattle.rv_asm.specs.declared.token.Token as read
 use Rattle.rv_asm.specs.declared.{fault.AsmFault.AsmFault, operation.Form.Form, operation.Place.Place}
 use Rattle.rv_asm.specs.declared.fault.AsmFault.TheVariants as fault
@@ -123,11 +124,19 @@ is_wrong_value fault.UnknownSymbol defined width written = is_undefined defined 
 is_wrong_value fault.OutOfRange defined width written = is_too_wide width written
 is_wrong_value _ defined width written = false
 
+-- answers of the program are those to a question about what is written
+abbrev pub Answers : (Option program.Operand → Bool → Type 0) → (Option Operand → Bool) → Type 0
+Answers gives question =
+    (written : _) (answer : Bool) → gives written answer → answer ≡ question (option_map operand_of written)
+
+-- the first operand that is sought
+abbrev pub first_operand : (Option Operand → Bool) → List (List Token) → Option (List Token)
+first_operand is_sought operands = find (λ operand. is_sought (operand_at operand)) operands
+
 -- the operand of data of a width for which a fault is reported: the only one, or the first wrong one of several
 abbrev pub wrong_value : AsmFault → (List ℕ → Bool) → Width → List (List Token) → Option (List Token)
 wrong_value fault defined width (operand ∷ []) = Some operand
-wrong_value fault defined width operands =
-    find (λ operand. is_wrong_value fault defined width (operand_at operand)) operands
+wrong_value fault defined width operands = first_operand (is_wrong_value fault defined width) operands
 
 -- a symbol is written
 abbrev pub is_symbolic : Option Operand → Bool
@@ -137,19 +146,15 @@ is_symbolic _ = false
 
 -- the first operand with a symbol
 abbrev pub first_symbolic : List (List Token) → Option (List Token)
-first_symbolic operands = find (λ operand. is_symbolic (operand_at operand)) operands
+first_symbolic operands = first_operand is_symbolic operands
 
 -- an operand with a symbol, if none after it has one
 abbrev pub if_last_symbolic : List Token → Option (List Token)
 if_last_symbolic operand = if is_none (first_symbolic (later_operands operand)) then Some operand else None
 
--- the operand with a symbol, where no other has one
-unfoldable pub only_symbolic : List (List Token) → Option (List Token)
-only_symbolic operands = option_and_then if_last_symbolic (first_symbolic operands)
-
 -- the operand of data whose symbol is out of range, where no number is: it is known where no other has a symbol
 unfoldable pub symbolic_value : AsmFault → List (List Token) → Option (List Token)
-symbolic_value fault.OutOfRange operands = only_symbolic operands
+symbolic_value fault.OutOfRange operands = option_and_then if_last_symbolic (first_symbolic operands)
 symbolic_value _ operands = None
 
 -- the operand of data of a width for which a fault is reported, if it is known

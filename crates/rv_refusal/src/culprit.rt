@@ -1,15 +1,14 @@
 ghost use Rattle.std.specs.Prelude.{◌≡◌, option_map};
 ghost use Rattle.std.specs.List.{list_all};
-ghost use Rattle.rv_asm.specs.Layout.{body_of};
 ghost use Rattle.rv_asm.specs.Meaning.{fits_width};
 ghost use Rattle.rv_asm.specs.Read.{operand_of, tokens_in};
 ghost use Rattle.rv_asm.specs.Statement.{is_implied};
 ghost use Rattle.rv_refusal.specs.NameSet.{holds};
-ghost use Rattle.rv_refusal.specs.Culprit.{culprit_among, culprit_of, culprit_on, faulty_value, first_symbolic};
-ghost use Rattle.rv_refusal.specs.Culprit.{fixed_places};
+ghost use Rattle.rv_refusal.specs.Culprit.{Answers, culprit_among, culprit_of, culprit_on, faulty_value, first_operand};
+ghost use Rattle.rv_refusal.specs.Culprit.{first_symbolic, fixed_places};
 ghost use Rattle.rv_refusal.specs.Culprit.{has_unknown_register, holds_register, holds_value, is_culprit, is_last};
 ghost use Rattle.rv_refusal.specs.Culprit.{is_misfit, is_of_operands, is_past_csrs, is_symbolic, is_too_wide};
-ghost use Rattle.rv_refusal.specs.Culprit.{is_undefined, only_symbolic, symbolic_value};
+ghost use Rattle.rv_refusal.specs.Culprit.{is_undefined, symbolic_value};
 ghost use Rattle.rv_refusal.specs.Culprit.{is_wrong_value, marked, may_be_out_of_range, operand_of_fault};
 ghost use Rattle.rv_refusal.specs.Culprit.{operands_left, operands_on, unless_empty, wrong_value};
 
@@ -190,6 +189,25 @@ fn is_wrong_value(
     }
 }
 
+// The first operand that is sought.
+fn first_operand<'t, 'a, F: Fn(Option<Operand<'a>>) -> bool>(
+    operands: Option<&'t [Token<'a>]>,
+    is_sought: F,
+) -> Option<&'t [Token<'a>]>
+    requires { F.IsAlwaysCallable is_sought }
+    ensures { (question : _) → Answers (F.post is_sought) question
+        → option_map (λ from. tokens_in from.now) result ≡ first_operand question (operands_left operands.entry) }
+{
+    let mut rest = operands;
+    while let Some(operand) = rest {
+        if is_sought(operand_at(operand)) {
+            return Some(operand);
+        }
+        rest = after_operand(operand);
+    }
+    None
+}
+
 // The operand of data of a width for which a fault is reported: the only one, or the first wrong one of several.
 fn wrong_value<'t, 'a>(
     fault: AsmFault,
@@ -203,14 +221,9 @@ fn wrong_value<'t, 'a>(
     if after_operand(operands?).is_none() {
         return operands;
     }
-    let mut rest = operands;
-    while let Some(operand) = rest {
-        if is_wrong_value(fault, defined, width, operand_at(operand)) {
-            return Some(operand);
-        }
-        rest = after_operand(operand);
-    }
-    None
+    first_operand(operands, |written| {
+        is_wrong_value(fault, defined, width, written)
+    })
 }
 
 // Whether a symbol is written.
@@ -227,26 +240,7 @@ fn is_symbolic(written: Option<Operand<'_>>) -> bool
 fn first_symbolic<'t, 'a>(operands: Option<&'t [Token<'a>]>) -> Option<&'t [Token<'a>]>
     ensures { option_map (λ from. tokens_in from.now) result ≡ first_symbolic (operands_left operands.entry) }
 {
-    let mut rest = operands;
-    while let Some(operand) = rest {
-        if is_symbolic(operand_at(operand)) {
-            return Some(operand);
-        }
-        rest = after_operand(operand);
-    }
-    None
-}
-
-// The operand with a symbol, where no other has one.
-#[tactic(auto, unfolding(crate::specs::Culprit::only_symbolic))]
-fn only_symbolic<'t, 'a>(operands: Option<&'t [Token<'a>]>) -> Option<&'t [Token<'a>]>
-    ensures { option_map (λ from. tokens_in from.now) result ≡ only_symbolic (operands_left operands.entry) }
-{
-    let symbolic = first_symbolic(operands)?;
-    match first_symbolic(after_operand(symbolic)) {
-        Some(_) => None,
-        None => Some(symbolic),
-    }
+    first_operand(operands, |written| is_symbolic(written))
 }
 
 // The operand of data whose symbol is out of range, where no number is: it is known where no other has a symbol.
@@ -257,9 +251,13 @@ fn symbolic_value<'t, 'a>(
 ) -> Option<&'t [Token<'a>]>
     ensures { option_map (λ from. tokens_in from.now) result ≡ symbolic_value fault (operands_left operands.entry) }
 {
-    match fault {
-        AsmFault::OutOfRange => only_symbolic(operands),
-        _ => None,
+    let AsmFault::OutOfRange = fault else {
+        return None;
+    };
+    let symbolic = first_symbolic(operands)?;
+    match first_symbolic(after_operand(symbolic)) {
+        Some(_) => None,
+        None => Some(symbolic),
     }
 }
 
