@@ -1,5 +1,5 @@
 -- What was mispredicted retired, so it is counted among all as among those that retired.
-use Rattle.std.proofs.Common.{◌≡◌, ◌∙◌, ℕ, true, false, List, Option, Some, None, count_by, refl, ap, true≢false}
+use Rattle.std.proofs.Common.{◌≡◌, ◌∙◌, ℕ, false, List, Option, Some, None, count_by, refl, ap, true≢false}
 use Rattle.rv_passage.specs.Passage.{is_retirement}
 use Rattle.rv_passage.specs.Prediction.{differ, is_mispredicted, next_of, prediction_of}
 use Rattle.rv_passage.specs.declared.passage.{Ending.Ending, Passage.Passage}

@@ -36,7 +36,7 @@ use Rattle.rv_passage.specs.Passage.{in_buffers, is_in_flight, is_running, is_sq
 use Rattle.rv_passage.specs.Passage.{retired_by, squashed_in, trapped_by}
 use Rattle.rv_passage.specs.Prediction.{differ, is_mispredicted, next_of, prediction_of}
 use Rattle.rv_passage.specs.Producers.{standing_at}
-use Rattle.rv_passage.specs.Shown.{Show, Shows, more, nothing}
+use Rattle.rv_passage.specs.Shown.{Show, more, nothing}
 use Rattle.rv_passage.specs.Table.{Passages, after_cycle, next_before, numbered_from}
 use Rattle.rv_passage.specs.Table.{still_open, table_at, with_oldest, with_step, with_steps}
 use Rattle.rv_hardware.specs.declared.step.Row.{Row}

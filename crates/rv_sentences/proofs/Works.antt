@@ -1,5 +1,5 @@
 -- What became of the fetched words, as instructions leave the hardware.
-use Rattle.std.proofs.Common.{◌≡◌, ◌∙◌, ℕ, ◌+◌, Bool, true, false, List, [], ◌∷◌, ◌++◌, length}
+use Rattle.std.proofs.Common.{◌≡◌, ◌∙◌, ℕ, ◌+◌, Bool, false, List, ◌++◌, length}
 use Rattle.std.proofs.Common.{filter, count_by, cond, refl, ap, sym, arith, length-append}
 use Rattle.std.specs.Prelude.{is_some, not}
 use Rattle.std.proofs.lemmas.List.Sums.{sum_by-append}
