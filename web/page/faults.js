@@ -29,8 +29,14 @@ class Refusal {
       if (caret === k + 2) this.putColumns(fault, lines[k + 1], lines[caret], job[this.part].split("\n")[fault.line - 1] || "");
       this.faults.push(fault);
     });
-    this.text = this.errors + (explanation.trim() ? "\n" + explanation.trimEnd() : "");
+    this.text = [this.errors, ...this.ownLines(explanation)].join("\n");
     if (this.faults.length === 0) this.guess(job);
+  }
+
+  // What `explain` says, with the numbers that lines have in their box, and not in the job; what the fault's line says is not said again.
+  ownLines(explanation) {
+    const own = explanation.trimEnd().split("\n").map((line) => line.replace(PLACE, "line $1"));
+    return own[0] === "" || (own[0].startsWith("line ") && this.errors.endsWith(own[0])) ? own.slice(1) : own;
   }
 
   // The shown line stands after four blanks; from the caret on the columns are those of the token.
