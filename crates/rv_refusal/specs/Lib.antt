@@ -1,4 +1,6 @@
+pub mod Advice
 pub mod Arrivals
+pub mod ByteAdvice
 pub mod Caret
 pub mod Culprit
 pub mod Definition

@@ -8,6 +8,7 @@ use Rattle.rv_asm.specs.declared.fault.AsmFault.{AsmFault}
 use Rattle.rv_asm.specs.declared.fault.AsmFault.TheVariants.{UnknownMnemonic, UnknownSymbol}
 use Rattle.rv_describe.specs.Near.{is_near}
 use Rattle.rv_refusal.specs.Names.{known_names, unknown_name}
+use Rattle.rv_refusal.specs.NameOn.{begins_with}
 use Rattle.rv_refusal.specs.NameSet.{is_one_of}
 
 -- the known names that are one edit away, and then those that are two away; at most three
@@ -39,18 +40,39 @@ abbrev pub aligns_to_power : List ℕ → Bool
 aligns_to_power name = bytes_eq name (codes ".align") || bytes_eq name (codes ".p2align")
 
 -- the directive to write in place of one of other assemblers
-unfoldable pub counterpart : List ℕ → Option (List ℕ)
-counterpart name =
+unfoldable pub directive_for : List ℕ → Option (List ℕ)
+directive_for name =
     if is_one_of (codes ".set" ∷ codes ".eqv" ∷ []) name then Some (codes ".equ")
-    else (if is_one_of (codes ".long" ∷ codes ".4byte" ∷ []) name then Some (codes ".word")
+    else (if is_one_of (codes ".long" ∷ codes ".4byte" ∷ codes ".quad" ∷ codes ".dword" ∷ codes ".8byte" ∷ []) name
+    then Some (codes ".word")
     else (if is_one_of (codes ".short" ∷ codes ".2byte" ∷ []) name then Some (codes ".half")
-    else (if is_one_of (codes ".org" ∷ codes ".fill" ∷ []) name then Some (codes ".zero")
-    else None)))
+    else (if is_one_of (codes ".org" ∷ codes ".fill" ∷ codes ".comm" ∷ codes ".lcomm" ∷ []) name then Some (codes ".zero")
+    else (if is_one_of (codes ".rodata" ∷ codes ".rdata" ∷ codes ".bss" ∷ codes ".sdata" ∷ codes ".sbss" ∷ []) name
+    then Some (codes ".data")
+    else None))))
+
+-- the mnemonic to write in place of one of other assemblers, or of another machine
+unfoldable pub mnemonic_for : List ℕ → Option (List ℕ)
+mnemonic_for name =
+    if is_one_of (codes "b" ∷ codes "jmp" ∷ codes "tail" ∷ []) name then Some (codes "j")
+    else (if bytes_eq name (codes "subi") then Some (codes "addi")
+    else (if is_one_of (codes "mov" ∷ codes "move" ∷ []) name then Some (codes "mv")
+    else (if bytes_eq name (codes "lla") then Some (codes "la")
+    else (if is_one_of (codes "ld" ∷ codes "lwu" ∷ []) name then Some (codes "lw")
+    else (if bytes_eq name (codes "sd") then Some (codes "sw")
+    else (if is_one_of (codes "scall" ∷ codes "syscall" ∷ []) name then Some (codes "ecall")
+    else (if is_one_of (codes "sret" ∷ codes "uret" ∷ []) name then Some (codes "mret")
+    else None)))))))
+
+-- what to write in place of a name of other assemblers
+unfoldable pub counterpart : List ℕ → Option (List ℕ)
+counterpart name = if begins_with 46 name then directive_for name else mnemonic_for name
 
 -- the line on an unknown mnemonic
 unfoldable pub mnemonic_line : List ℕ → List (List ℕ) → List ℕ
 mnemonic_line name known =
     if aligns_to_power name then codes "nearest: .balign, in bytes: .balign 4 for .align 2, .balign 8 for .align 3\n"
+    else if bytes_eq name (codes ".section") then names_line (codes ".text" ∷ codes ".data" ∷ [])
     else option_map_or (λ other. names_line (other ∷ [])) (counterpart name) (hint_line name known)
 
 -- the line on an unknown name of assembly; that of a symbol may have capital letters

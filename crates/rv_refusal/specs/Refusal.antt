@@ -5,6 +5,7 @@ use Rattle.rv_asm.specs.declared.fault.AsmError.{AsmError}
 use Rattle.rv_job.specs.Parts.{parts_of}
 use Rattle.rv_job.specs.declared.errors.SimError.{SimError}
 use Rattle.rv_job.specs.declared.errors.SimError.TheVariants.{TooLong, Description, Arrivals, Assembly, ImageDoesNotFit}
+use Rattle.rv_refusal.specs.Advice.{advice}
 use Rattle.rv_refusal.specs.Arrivals.{arrivals_lines}
 use Rattle.rv_refusal.specs.Caret.{caret_line}
 use Rattle.rv_refusal.specs.Described.{description_lines}
@@ -28,15 +29,16 @@ line_text before error defined line tokens =
     ++ (caret_line error.fault defined line tokens
     ++ (expected error.fault tokens ++ separator_question before line)))
 
--- the fault of an assembly that so many lines of the job stand before, the known names that are near, and the lines
--- after it at fault
+-- the fault of an assembly that so many lines of the job stand before, the known names that are near, what to write
+-- instead, and the lines after it at fault
 unfoldable pub assembly_text : ℕ → List ℕ → AsmError → List ℕ
 assembly_text before assembly error =
     let line = line_at error.line assembly in
     let tokens = tokens_on line in
     let symbols = symbols_at error.fault assembly in
     line_text before error (is_one_of symbols) line tokens
-    ++ (nearest_line error.fault (is_one_of symbols) symbols tokens ++ further_lines before error.line assembly)
+    ++ (nearest_line error.fault (is_one_of symbols) symbols tokens
+    ++ (advice before error.fault (is_one_of symbols) line tokens ++ further_lines before error.line assembly))
 
 -- why a job is refused
 unfoldable pub refusal_text : List ℕ → SimError → List ℕ

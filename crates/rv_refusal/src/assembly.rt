@@ -3,6 +3,7 @@ ghost use Rattle.rv_asm.specs.Read.{tokens_in};
 ghost use Rattle.rv_refusal.specs.NameSet.{holds};
 ghost use Rattle.rv_refusal.specs.Refusal.{assembly_text, line_text};
 
+use crate::advice::add_advice;
 use crate::caret::add_caret_line;
 use crate::expected::add_expected;
 use crate::further::add_further;
@@ -36,8 +37,8 @@ fn add_line_text(
     add_separator_question(out, before, line)
 }
 
-/// Appends the fault of an assembly that so many lines of the job stand before, the known names that are near, and the
-/// lines after it at fault.
+/// Appends the fault of an assembly that so many lines of the job stand before, the known names that are near, what to
+/// write instead, and the lines after it at fault.
 #[tactic(auto, unfolding(crate::specs::Refusal::assembly_text))]
 pub(crate) fn add_assembly(
     alloc: Global,
@@ -62,5 +63,6 @@ pub(crate) fn add_assembly(
         symbols,
         tokens.as_slice(),
     )?;
+    add_advice(out, before, error.fault, &defined, line, tokens.as_slice())?;
     add_further(alloc, out, before, error.line, assembly)
 }

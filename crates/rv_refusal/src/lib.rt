@@ -3,8 +3,10 @@
 //! explained. Beside it stands what is shown of words that are no command: some text of `clap`, with a hint after it.
 #![tactic(auto)]
 
+mod advice;
 mod arrivals;
 mod assembly;
+mod byte_advice;
 mod caret;
 mod culprit;
 mod definition;

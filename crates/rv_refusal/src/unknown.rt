@@ -2,7 +2,8 @@ ghost use Rattle.std.specs.Prelude.{◌≡◌, ◌++◌, OnOk, map, option_copie
 ghost use Rattle.rv_asm.specs.Read.{tokens_in};
 ghost use Rattle.rv_refusal.specs.Names.{known_names, names_csr, unknown_name};
 ghost use Rattle.rv_refusal.specs.NameSet.{holds};
-ghost use Rattle.rv_refusal.specs.Near.{aligns_to_power, counterpart, known_line, mnemonic_line, nearest_line};
+ghost use Rattle.rv_refusal.specs.Near.{aligns_to_power, counterpart, directive_for, known_line};
+ghost use Rattle.rv_refusal.specs.Near.{mnemonic_for, mnemonic_line, nearest_line};
 
 use crate::culprit::operand_of_fault;
 use crate::key_line::is_among;
@@ -28,9 +29,13 @@ fn names_csr(body: &[Token<'_>]) -> bool
     )
 }
 
-// The name at fault in a statement.
+/// The name at fault in a statement.
 #[tactic(auto, unfolding(crate::specs::Names::unknown_name))]
-fn unknown_name<'a>(fault: AsmFault, defined: &NameSet<'_>, body: &[Token<'a>]) -> Option<&'a [u8]>
+pub(crate) fn unknown_name<'a>(
+    fault: AsmFault,
+    defined: &NameSet<'_>,
+    body: &[Token<'a>],
+) -> Option<&'a [u8]>
     ensures { option_copied result ≡ unknown_name fault (holds defined.now) (tokens_in body.now) }
 {
     match fault {
@@ -71,23 +76,70 @@ fn aligns_to_power(name: &[u8]) -> bool
 }
 
 // The directive to write in place of one of other assemblers.
-#[tactic(auto, unfolding(crate::specs::Near::counterpart))]
-fn counterpart(name: &[u8]) -> Option<&'static [u8]>
-    ensures { option_copied result ≡ counterpart name.now }
+#[tactic(auto, unfolding(crate::specs::Near::directive_for))]
+fn directive_for(name: &[u8]) -> Option<&'static [u8]>
+    ensures { option_copied result ≡ directive_for name.now }
 {
     if is_among(name, &[b".set", b".eqv"]) {
         return Some(b".equ");
     }
-    if is_among(name, &[b".long", b".4byte"]) {
+    if is_among(name, &[b".long", b".4byte", b".quad", b".dword", b".8byte"]) {
         return Some(b".word");
     }
     if is_among(name, &[b".short", b".2byte"]) {
         return Some(b".half");
     }
-    if is_among(name, &[b".org", b".fill"]) {
+    if is_among(name, &[b".org", b".fill", b".comm", b".lcomm"]) {
         return Some(b".zero");
     }
+    if is_among(name, &[b".rodata", b".rdata", b".bss", b".sdata", b".sbss"]) {
+        return Some(b".data");
+    }
     None
+}
+
+// The mnemonic to write in place of one of other assemblers, or of another machine.
+#[tactic(auto, unfolding(crate::specs::Near::mnemonic_for))]
+fn mnemonic_for(name: &[u8]) -> Option<&'static [u8]>
+    ensures { option_copied result ≡ mnemonic_for name.now }
+{
+    if is_among(name, &[b"b", b"jmp", b"tail"]) {
+        return Some(b"j");
+    }
+    if name == b"subi".as_slice() {
+        return Some(b"addi");
+    }
+    if is_among(name, &[b"mov", b"move"]) {
+        return Some(b"mv");
+    }
+    if name == b"lla".as_slice() {
+        return Some(b"la");
+    }
+    if is_among(name, &[b"ld", b"lwu"]) {
+        return Some(b"lw");
+    }
+    if name == b"sd".as_slice() {
+        return Some(b"sw");
+    }
+    if is_among(name, &[b"scall", b"syscall"]) {
+        return Some(b"ecall");
+    }
+    if is_among(name, &[b"sret", b"uret"]) {
+        return Some(b"mret");
+    }
+    None
+}
+
+/// What to write in place of a name of other assemblers.
+#[tactic(auto, unfolding(crate::specs::Near::counterpart))]
+pub(crate) fn counterpart(name: &[u8]) -> Option<&'static [u8]>
+    ensures { option_copied result ≡ counterpart name.now }
+{
+    if begins_with(b'.', name) {
+        directive_for(name)
+    } else {
+        mnemonic_for(name)
+    }
 }
 
 // Appends the line on an unknown mnemonic.
@@ -106,6 +158,9 @@ fn add_mnemonic_line(
             out,
             b"nearest: .balign, in bytes: .balign 4 for .align 2, .balign 8 for .align 3\n",
         );
+    }
+    if name == b".section".as_slice() {
+        return add_names_line(out, &[b".text", b".data"]);
     }
     match counterpart(name) {
         Some(other) => add_names_line(out, &[other]),

@@ -2,6 +2,7 @@ mod arrivals;
 mod capitals;
 mod expected;
 mod first_lines;
+mod hints;
 mod lines;
 mod parts;
 
@@ -34,6 +35,25 @@ pub(crate) fn check_whole(rt: &impl Abort, alloc: Global, cases: &[Refused]) -> 
     for it in cases {
         let found = shown(alloc, it.job)?;
         check_bytes(rt, found.as_slice(), it.why);
+    }
+    Ok(())
+}
+
+// Checks that what is shown of a job ends so.
+pub(crate) fn check_end(rt: &impl Abort, alloc: Global, job: &str, end: &str) -> Result<(), Fail> {
+    let found = shown(alloc, job.as_bytes())?;
+    assert!(rt; found.as_slice().ends_with(end.as_bytes()), "{job}");
+    Ok(())
+}
+
+// Checks that what is shown of each job ends so.
+pub(crate) fn check_ends(
+    rt: &impl Abort,
+    alloc: Global,
+    cases: &[(&str, &str)],
+) -> Result<(), Fail> {
+    for (job, end) in cases {
+        check_end(rt, alloc, job, end)?;
     }
     Ok(())
 }

@@ -1,17 +1,21 @@
-use crate::refusal::shown;
-use std::alloc::Global;
-use std::process::Abort;
+use crate::refusal::check_ends;
 use std::test::Fail;
 
 const JUMP: &str = "\nexpected: a target from -1048576 to 1048574 bytes away\n";
 
 const IMMEDIATE: &str = "\nexpected: a value from -2048 to 2047\n";
 
+const NUMBER: &str =
+    "\nexpected: a value from -2048 to 2047\nhint: li loads each number of 32 bits\n";
+
 const UPPER: &str = "\nexpected: a value from 0 to 1048575\n";
 
 // Statements with a value that is out of range, and the range.
 static RANGES: [(&str, &str); 16] = [
-    ("lui x1, 0x100000", UPPER),
+    (
+        "lui x1, 0x100000",
+        "\nexpected: a value from 0 to 1048575\nhint: li loads each number of 32 bits\n",
+    ),
     ("auipc x1, 0x100000", UPPER),
     (".equ far, 0\nj far", JUMP),
     (".equ far, 0\njal far", JUMP),
@@ -22,7 +26,7 @@ static RANGES: [(&str, &str); 16] = [
     ("jalr x1, 2048(x2)", IMMEDIATE),
     ("jr x2\nlw x1, -2049(x2)", IMMEDIATE),
     ("sw x1, 2048(x2)", IMMEDIATE),
-    ("addi x1, x2, 2048", IMMEDIATE),
+    ("addi x1, x2, 2048", NUMBER),
     ("slli x1, x1, 32", "\nexpected: a value from 0 to 31\n"),
     ("csrrw x0, 4096, x1", "\nexpected: a CSR from 0 to 4095\n"),
     (
@@ -101,7 +105,7 @@ static SHAPES: [(&str, &str); 16] = [
 static OTHERS: [(&str, &str); 6] = [
     (
         "nop ; nop",
-        "\nexpected: names, numbers up to 4294967295, strings that end on their line, and the marks , : ( ) + -\n",
+        "\nexpected: names, numbers up to 4294967295, strings that end on their line, and the marks , : ( ) + -\nhint: a comment begins with #, and a line has one statement\n",
     ),
     (
         "5 nop",
@@ -124,21 +128,6 @@ static OTHERS: [(&str, &str); 6] = [
         "\nexpected: a symbol that a label or .equ defines\n",
     ),
 ];
-
-// Checks that what is shown of a job ends so.
-fn check_end(rt: &impl Abort, alloc: Global, job: &str, end: &str) -> Result<(), Fail> {
-    let found = shown(alloc, job.as_bytes())?;
-    assert!(rt; found.as_slice().ends_with(end.as_bytes()), "{job}");
-    Ok(())
-}
-
-// Checks that what is shown of each job ends so.
-fn check_ends(rt: &impl Abort, alloc: Global, cases: &[(&str, &str)]) -> Result<(), Fail> {
-    for (job, end) in cases {
-        check_end(rt, alloc, job, end)?;
-    }
-    Ok(())
-}
 
 #[test]
 fn a_refusal_says_what_was_expected(rt: HostRuntime) -> Result<(), Fail> {

@@ -10,6 +10,7 @@ line 1 of the job, line 1 of its assembly: BadToken
     lui a0, %hi(x)
             ^
 expected: names, numbers up to 4294967295, strings that end on their line, and the marks , : ( ) + -
+hint: la loads the address of a symbol, without %hi and %lo
 ",
     },
     Refused {
@@ -19,6 +20,7 @@ line 1 of the job, line 1 of its assembly: BadToken
     lw a0, [sp]
            ^
 expected: names, numbers up to 4294967295, strings that end on their line, and the marks , : ( ) + -
+hint: an address is written as offset(register), as in 8(sp)
 ",
     },
     Refused {
@@ -28,6 +30,7 @@ line 1 of the job, line 1 of its assembly: BadToken
     li a0, 5 == 5
              ^
 expected: names, numbers up to 4294967295, strings that end on their line, and the marks , : ( ) + -
+hint: .equ gives a name its number, as in .equ size, 64
 ",
     },
     Refused {

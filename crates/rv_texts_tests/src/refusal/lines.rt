@@ -157,6 +157,7 @@ line 1 of the job, line 1 of its assembly: UnknownSymbol
     .word x5, x5
           ^
 expected: a symbol that a label or .equ defines
+hint: x5 is a register, and a symbol or a number stands here
 ",
     },
     Refused {
@@ -185,6 +186,7 @@ line 2 of the job, line 2 of its assembly: BadToken
       .ascii \"a\\q\"
              ^
 expected: names, numbers up to 4294967295, strings that end on their line, and the marks , : ( ) + -
+hint: a string ends on its line, and after \\ stands one of n t \\ \" 0
 ",
     },
     Refused {
@@ -204,6 +206,7 @@ line 2 of the job, line 1 of its assembly: BadToken
     rob = 8
         ^
 expected: names, numbers up to 4294967295, strings that end on their line, and the marks , : ( ) + -
+hint: .equ gives a name its number, as in .equ size, 64
 ",
     },
     Refused {
@@ -213,6 +216,7 @@ line 1 of the job, line 1 of its assembly: BadOperands
     add x1, x2, 5
                 ^
 expected: add rd, rs1, rs2, as in 'add x5, x6, x7'
+hint: with a number it is addi
 ",
     },
     Refused {
@@ -316,6 +320,7 @@ line 1 of the job, line 1 of its assembly: UnknownMnemonic
     x
     ^
 expected: a statement that begins with an instruction or a directive
+hint: a label has a colon after it, as in x:
 line 2 of the job, line 2 of its assembly: UnknownMnemonic
 line 3 of the job, line 3 of its assembly: UnknownMnemonic
 line 4 of the job, line 4 of its assembly: UnknownMnemonic

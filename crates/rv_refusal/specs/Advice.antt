@@ -1,0 +1,136 @@
+-- What to write in place of a statement at fault, where it is known what was meant.
+use Rattle.std.specs.Prelude.{ℕ, List, [], ◌∷◌, ◌++◌, codes, Bool, true, false, ◌&&◌, if◌then◌else◌}
+use Rattle.std.specs.Prelude.{Option, Some, None, is_some}
+use Rattle.std.specs.{Option.option_map_or, Str.bytes_eq}
+use Rattle.rv_asm.specs.Layout.{body_of}
+use Rattle.rv_asm.specs.Mnemonic.{form_named}
+use Rattle.rv_asm.specs.Token.{Token}
+use Rattle.rv_asm.specs.Token as token
+use Rattle.rv_asm.specs.declared.fault.AsmFault.{AsmFault}
+use Rattle.rv_asm.specs.declared.fault.AsmFault.TheVariants as fault
+use Rattle.rv_refusal.specs.ByteAdvice.{bytes_advice}
+use Rattle.rv_refusal.specs.Culprit.{operand_of_fault}
+use Rattle.rv_refusal.specs.Names.{registers, unknown_name}
+use Rattle.rv_refusal.specs.NameOn.{begins_with}
+use Rattle.rv_refusal.specs.NameSet.{is_one_of}
+use Rattle.rv_refusal.specs.Near.{counterpart}
+use Rattle.rv_refusal.specs.Statement.{first_name}
+
+-- a directive of other assemblers that says nothing to this machine
+abbrev pub may_be_left_out : List ℕ → Bool
+may_be_left_out name =
+    is_one_of (codes ".option" ∷ codes ".type" ∷ codes ".size" ∷ codes ".file" ∷ codes ".ident" ∷ codes ".attribute"
+    ∷ codes ".end" ∷ codes ".weak" ∷ codes ".local" ∷ codes ".loc" ∷ []) name
+
+-- a directive of other assemblers that makes lines, or takes them in under a condition
+abbrev pub makes_lines : List ℕ → Bool
+makes_lines name =
+    is_one_of (codes ".macro" ∷ codes ".endm" ∷ codes ".rept" ∷ codes ".endr" ∷ codes ".if" ∷ codes ".else"
+    ∷ codes ".endif" ∷ codes ".include" ∷ []) name
+
+-- data of 64 bits
+abbrev pub is_of_two_words : List ℕ → Bool
+is_of_two_words name = is_one_of (codes ".quad" ∷ codes ".dword" ∷ codes ".8byte" ∷ []) name
+
+-- a name at the front reads as a label without its colon: it stands alone, or a statement follows it
+abbrev pub reads_as_label : List Token → Bool
+reads_as_label (token.Name name ∷ []) = true
+reads_as_label (token.Name name ∷ token.Name next ∷ rest) = is_some (form_named next)
+reads_as_label _ = false
+
+-- what to write in place of a statement with an unknown directive
+unfoldable pub directive_advice : List ℕ → List ℕ
+directive_advice name =
+    if may_be_left_out name then codes "hint: this line may be left out\n"
+    else (if makes_lines name then codes "hint: there are no macros and no conditions: the lines stand themselves\n"
+    else (if is_of_two_words name then codes "hint: two words, the lower one first\n"
+    else []))
+
+-- what to write in place of a statement with an unknown mnemonic
+unfoldable pub label_advice : List ℕ → List Token → List ℕ
+label_advice name body =
+    if is_some (counterpart name) then []
+    else (if reads_as_label body then codes "hint: a label has a colon after it, as in " ++ (name ++ codes ":\n")
+    else [])
+
+-- what to write in place of a statement with an unknown name
+abbrev pub name_advice : List Token → List ℕ → List ℕ
+name_advice body name = if begins_with 46 name then directive_advice name else label_advice name body
+
+-- what to write in place of a statement whose name is unknown or that has none
+unfoldable pub statement_advice : List Token → List ℕ
+statement_advice (token.Number number ∷ token.Colon ∷ rest) = codes "hint: a label is a name, as in again:\n"
+statement_advice (token.Name name ∷ token.Minus ∷ rest) = codes "hint: a name has letters, digits, _ . and $\n"
+statement_advice body = option_map_or (name_advice body) (first_name body) []
+
+-- what to write in place of a register where a value is to stand
+unfoldable pub register_advice : List ℕ → List ℕ
+register_advice name =
+    if is_one_of registers name
+    then codes "hint: " ++ (name ++ codes " is a register, and a symbol or a number stands here\n")
+    else []
+
+-- the token is a name or a number
+abbrev pub is_word : Token → Bool
+is_word (token.Name name) = true
+is_word (token.Number number) = true
+is_word _ = false
+
+-- two names or numbers stand side by side
+abbrev pub lacks_comma : List Token → Bool
+lacks_comma (first ∷ second ∷ rest) = if is_word first then is_word second else false
+lacks_comma _ = false
+
+-- a number stands at the front
+abbrev pub begins_with_number : List Token → Bool
+begins_with_number (token.Number number ∷ rest) = true
+begins_with_number (token.Minus ∷ token.Number number ∷ rest) = true
+begins_with_number _ = false
+
+-- what an instruction on registers is with a number in the place of one
+unfoldable pub with_number : List ℕ → List ℕ
+with_number name =
+    if is_one_of (codes "add" ∷ codes "and" ∷ codes "or" ∷ codes "xor" ∷ codes "slt" ∷ codes "sll" ∷ codes "srl" ∷ codes "sra" ∷ []) name
+    then codes "hint: with a number it is " ++ (name ++ codes "i\n")
+    else (if bytes_eq name (codes "sub") then codes "hint: with a number it is addi, and the number has the other sign\n"
+    else (if bytes_eq name (codes "mv") then codes "hint: with a number it is li\n"
+    else []))
+
+-- an instruction loads or stores
+abbrev pub accesses_memory : List ℕ → Bool
+accesses_memory name =
+    is_one_of (codes "lb" ∷ codes "lh" ∷ codes "lw" ∷ codes "lbu" ∷ codes "lhu" ∷ codes "sb" ∷ codes "sh" ∷ codes "sw" ∷ []) name
+
+-- what to write in place of an operand, from its first token on
+unfoldable pub operand_advice : List ℕ → List Token → List ℕ
+operand_advice name operand =
+    if lacks_comma operand then codes "hint: a comma stands between two operands\n"
+    else (if begins_with_number operand then with_number name
+    else (if accesses_memory name && is_some (first_name operand)
+    then codes "hint: an address is in a register: la t0, symbol loads it, and 0(t0) is the word there\n"
+    else []))
+
+-- what to write in place of the operand at fault
+abbrev pub operands_advice : (List ℕ → Bool) → List Token → List ℕ
+operands_advice defined body =
+    option_map_or (λ name. option_map_or (operand_advice name) (operand_of_fault fault.BadOperands defined body) [])
+    (first_name body) []
+
+-- what to write in place of an immediate that is out of range
+unfoldable pub range_advice : List ℕ → List ℕ
+range_advice name =
+    if is_one_of (codes "addi" ∷ codes "lui" ∷ []) name then codes "hint: li loads each number of 32 bits\n" else []
+
+-- what to write in place of a statement at fault, where these symbols are defined
+unfoldable pub body_advice : AsmFault → (List ℕ → Bool) → List Token → List ℕ
+body_advice fault.UnknownMnemonic defined body = statement_advice body
+body_advice fault.UnknownSymbol defined body =
+    option_map_or register_advice (unknown_name fault.UnknownSymbol defined body) []
+body_advice fault.BadOperands defined body = operands_advice defined body
+body_advice fault.OutOfRange defined body = option_map_or range_advice (first_name body) []
+body_advice _ defined body = []
+
+-- what to write in place of what is at fault on a line with these tokens, where so many lines stand before the assembly
+unfoldable pub advice : ℕ → AsmFault → (List ℕ → Bool) → List ℕ → List Token → List ℕ
+advice before fault.BadToken defined line tokens = bytes_advice before line
+advice before fault defined line tokens = body_advice fault defined (body_of tokens)

@@ -1,0 +1,43 @@
+-- What to write in place of bytes that are no token.
+use Rattle.std.specs.Prelude.{ℕ, ◌==◌, ◌&&◌, ◌||◌, Bool, List, [], codes, if◌then◌else◌, is_some, length, nat_lt}
+use Rattle.std.specs.{Char.is_ascii_digit, List.list_any, List.slice_get, Option.option_map_or}
+use Rattle.rv_refusal.specs.Caret.{token_place}
+use Rattle.rv_refusal.specs.NameOn.{goes_on_with, key_on}
+
+-- a byte is one of these characters
+abbrev pub is_mark : List ℕ → ℕ → Bool
+is_mark marks byte = list_any (λ mark. mark == byte) marks
+
+-- what to write in place of an operator, a bracket, a quote or a sign of other assemblers
+unfoldable pub mark_advice : ℕ → List ℕ
+mark_advice byte =
+    if is_mark (codes ";/") byte then codes "hint: a comment begins with #, and a line has one statement\n"
+    else (if byte == 39 then codes "hint: a character is written as its number, as 65 for A\n"
+    else (if byte == 37 then codes "hint: la loads the address of a symbol, without %hi and %lo\n"
+    else (if byte == 34 then codes "hint: a string ends on its line, and after \\ stands one of n t \\ \" 0\n"
+    else (if is_mark (codes "*<>&|^~!") byte then codes "hint: a symbol and a number may be added or subtracted, as in table+4\n"
+    else (if byte == 61 then codes "hint: .equ gives a name its number, as in .equ size, 64\n"
+    else (if is_mark (codes "[{") byte then codes "hint: an address is written as offset(register), as in 8(sp)\n"
+    else (if byte == 64 then codes "hint: a line of .type may be left out, and a comment begins with #\n"
+    else [])))))))
+
+-- what to write in place of what begins with a byte and is no token
+unfoldable pub byte_advice : ℕ → List ℕ
+byte_advice byte =
+    if is_ascii_digit byte
+    then codes "hint: a number is decimal, or has 0x or 0b before it, and is at most 4294967295; no name begins with a digit\n"
+    else (if nat_lt 127 byte
+    then codes "hint: this byte is not ASCII, as a blank, a quote or a minus of a word processor is none\n"
+    else mark_advice byte)
+
+-- a line reads as a separator or as a heading of a table, or as one with a key where the assembly begins on the job's
+-- first line
+abbrev pub reads_as_part : ℕ → List ℕ → Bool
+reads_as_part before line =
+    goes_on_with 37 line || (goes_on_with 91 line || (before == 0 && is_some (key_on line)))
+
+-- what to write in place of the first bytes of a line that are no token; nothing where another part of the job may be meant
+unfoldable pub bytes_advice : ℕ → List ℕ → List ℕ
+bytes_advice before line =
+    if reads_as_part before line then []
+    else option_map_or byte_advice (slice_get line (token_place line (length line))) []

@@ -1,0 +1,315 @@
+ghost use Rattle.std.specs.Prelude.{◌≡◌, ◌++◌, OnOk};
+ghost use Rattle.rv_asm.specs.Read.{token_of, tokens_in};
+ghost use Rattle.rv_refusal.specs.Advice.{accesses_memory, advice, begins_with_number, body_advice};
+ghost use Rattle.rv_refusal.specs.Advice.{directive_advice, is_of_two_words, is_word, label_advice, lacks_comma};
+ghost use Rattle.rv_refusal.specs.Advice.{makes_lines, may_be_left_out, name_advice, operand_advice, operands_advice};
+ghost use Rattle.rv_refusal.specs.Advice.{range_advice, reads_as_label, register_advice, statement_advice, with_number};
+ghost use Rattle.rv_refusal.specs.NameSet.{holds};
+
+use crate::byte_advice::bytes_advice;
+use crate::culprit::operand_of_fault;
+use crate::key_line::is_among;
+use crate::name_on::begins_with;
+use crate::name_set::NameSet;
+use crate::names::registers;
+use crate::statement::{after_labels, first_name};
+use crate::text::{add_all, add_text};
+use crate::unknown::{counterpart, unknown_name};
+use rv_asm::{AsmFault, Token, form_named};
+use std::alloc::AllocError;
+
+// Whether a directive of other assemblers says nothing to this machine.
+fn may_be_left_out(name: &[u8]) -> bool
+    ensures { result ≡ may_be_left_out name.now }
+{
+    is_among(
+        name,
+        &[
+            b".option",
+            b".type",
+            b".size",
+            b".file",
+            b".ident",
+            b".attribute",
+            b".end",
+            b".weak",
+            b".local",
+            b".loc",
+        ],
+    )
+}
+
+// Whether a directive of other assemblers makes lines, or takes them in under a condition.
+fn makes_lines(name: &[u8]) -> bool
+    ensures { result ≡ makes_lines name.now }
+{
+    is_among(
+        name,
+        &[
+            b".macro",
+            b".endm",
+            b".rept",
+            b".endr",
+            b".if",
+            b".else",
+            b".endif",
+            b".include",
+        ],
+    )
+}
+
+// Whether a directive of other assemblers is one of data of 64 bits.
+fn is_of_two_words(name: &[u8]) -> bool
+    ensures { result ≡ is_of_two_words name.now }
+{
+    is_among(name, &[b".quad", b".dword", b".8byte"])
+}
+
+// Whether a name at the front reads as a label without its colon.
+fn reads_as_label(body: &[Token<'_>]) -> bool
+    ensures { result ≡ reads_as_label (tokens_in body.now) }
+{
+    match body {
+        [Token::Name(_)] => true,
+        [Token::Name(_), Token::Name(next), ..] => form_named(next).is_some(),
+        _ => false,
+    }
+}
+
+// What to write in place of a statement with an unknown directive.
+#[tactic(auto, unfolding(crate::specs::Advice::directive_advice))]
+fn directive_advice(name: &[u8]) -> &'static [u8]
+    ensures { result.now ≡ directive_advice name.now }
+{
+    if may_be_left_out(name) {
+        return b"hint: this line may be left out\n";
+    }
+    if makes_lines(name) {
+        return b"hint: there are no macros and no conditions: the lines stand themselves\n";
+    }
+    if is_of_two_words(name) {
+        return b"hint: two words, the lower one first\n";
+    }
+    b""
+}
+
+// Appends what to write in place of a statement with an unknown mnemonic.
+#[tactic(auto, unfolding(crate::specs::Advice::label_advice))]
+fn add_label_advice(out: &mut Vec<u8>, name: &[u8], body: &[Token<'_>]) -> Result<(), AllocError>
+    ensures { OnOk result (out.new.items ≡ out.old.items ++ label_advice name.now (tokens_in body.now)) }
+{
+    if counterpart(name).is_some() || !reads_as_label(body) {
+        return Ok(());
+    }
+    add_all(
+        out,
+        &[b"hint: a label has a colon after it, as in ", name, b":\n"],
+    )
+}
+
+// Appends what to write in place of a statement with an unknown name.
+fn add_name_advice(out: &mut Vec<u8>, body: &[Token<'_>], name: &[u8]) -> Result<(), AllocError>
+    ensures { OnOk result (out.new.items ≡ out.old.items ++ name_advice (tokens_in body.now) name.now) }
+{
+    if begins_with(b'.', name) {
+        add_text(out, directive_advice(name))
+    } else {
+        add_label_advice(out, name, body)
+    }
+}
+
+// Appends what to write in place of a statement whose name is unknown or that has none.
+#[tactic(auto, unfolding(crate::specs::Advice::statement_advice))]
+fn add_statement_advice(out: &mut Vec<u8>, body: &[Token<'_>]) -> Result<(), AllocError>
+    ensures { OnOk result (out.new.items ≡ out.old.items ++ statement_advice (tokens_in body.now)) }
+{
+    match body {
+        [Token::Number(_), Token::Colon, ..] => {
+            add_text(out, b"hint: a label is a name, as in again:\n")
+        }
+        [Token::Name(_), Token::Minus, ..] => {
+            add_text(out, b"hint: a name has letters, digits, _ . and $\n")
+        }
+        [Token::Name(name), ..] => add_name_advice(out, body, name),
+        _ => Ok(()),
+    }
+}
+
+// Appends what to write in place of a register where a value is to stand.
+#[tactic(auto, unfolding(crate::specs::Advice::register_advice))]
+fn add_register_advice(out: &mut Vec<u8>, name: &[u8]) -> Result<(), AllocError>
+    ensures { OnOk result (out.new.items ≡ out.old.items ++ register_advice name.now) }
+{
+    if !is_among(name, registers()) {
+        return Ok(());
+    }
+    add_all(
+        out,
+        &[
+            b"hint: ",
+            name,
+            b" is a register, and a symbol or a number stands here\n",
+        ],
+    )
+}
+
+fn is_word(token: &Token<'_>) -> bool
+    ensures { result ≡ is_word (token_of token.now) }
+{
+    matches!(token, Token::Name(_) | Token::Number(_))
+}
+
+// Whether two names or numbers stand side by side.
+fn lacks_comma(operand: &[Token<'_>]) -> bool
+    ensures { result ≡ lacks_comma (tokens_in operand.now) }
+{
+    match operand {
+        [first, second, ..] => is_word(first) && is_word(second),
+        _ => false,
+    }
+}
+
+// Whether a number stands at the front.
+fn begins_with_number(operand: &[Token<'_>]) -> bool
+    ensures { result ≡ begins_with_number (tokens_in operand.now) }
+{
+    matches!(
+        operand,
+        [Token::Number(_), ..] | [Token::Minus, Token::Number(_), ..]
+    )
+}
+
+// Appends what an instruction on registers is with a number in the place of one.
+#[tactic(auto, unfolding(crate::specs::Advice::with_number))]
+fn add_with_number(out: &mut Vec<u8>, name: &[u8]) -> Result<(), AllocError>
+    ensures { OnOk result (out.new.items ≡ out.old.items ++ with_number name.now) }
+{
+    if is_among(
+        name,
+        &[
+            b"add", b"and", b"or", b"xor", b"slt", b"sll", b"srl", b"sra",
+        ],
+    ) {
+        return add_all(out, &[b"hint: with a number it is ", name, b"i\n"]);
+    }
+    if name == b"sub".as_slice() {
+        return add_text(
+            out,
+            b"hint: with a number it is addi, and the number has the other sign\n",
+        );
+    }
+    if name == b"mv".as_slice() {
+        return add_text(out, b"hint: with a number it is li\n");
+    }
+    Ok(())
+}
+
+// Whether an instruction loads or stores.
+fn accesses_memory(name: &[u8]) -> bool
+    ensures { result ≡ accesses_memory name.now }
+{
+    is_among(
+        name,
+        &[b"lb", b"lh", b"lw", b"lbu", b"lhu", b"sb", b"sh", b"sw"],
+    )
+}
+
+// Appends what to write in place of an operand, from its first token on.
+#[tactic(auto, unfolding(crate::specs::Advice::operand_advice))]
+fn add_operand_advice(
+    out: &mut Vec<u8>,
+    name: &[u8],
+    operand: &[Token<'_>],
+) -> Result<(), AllocError>
+    ensures { OnOk result (out.new.items ≡ out.old.items ++ operand_advice name.now (tokens_in operand.now)) }
+{
+    if lacks_comma(operand) {
+        return add_text(out, b"hint: a comma stands between two operands\n");
+    }
+    if begins_with_number(operand) {
+        return add_with_number(out, name);
+    }
+    if accesses_memory(name) && first_name(operand).is_some() {
+        return add_text(
+            out,
+            b"hint: an address is in a register: la t0, symbol loads it, and 0(t0) is the word there\n",
+        );
+    }
+    Ok(())
+}
+
+// Appends what to write in place of the operand at fault.
+fn add_operands_advice(
+    out: &mut Vec<u8>,
+    defined: &NameSet<'_>,
+    body: &[Token<'_>],
+) -> Result<(), AllocError>
+    ensures { OnOk result (out.new.items
+        ≡ out.old.items ++ operands_advice (holds defined.now) (tokens_in body.now)) }
+{
+    let Some(name) = first_name(body) else {
+        return Ok(());
+    };
+    match operand_of_fault(AsmFault::BadOperands, defined, body) {
+        Some(operand) => add_operand_advice(out, name, operand),
+        None => Ok(()),
+    }
+}
+
+// What to write in place of an immediate that is out of range.
+#[tactic(auto, unfolding(crate::specs::Advice::range_advice))]
+fn range_advice(name: &[u8]) -> &'static [u8]
+    ensures { result.now ≡ range_advice name.now }
+{
+    if is_among(name, &[b"addi", b"lui"]) {
+        b"hint: li loads each number of 32 bits\n"
+    } else {
+        b""
+    }
+}
+
+// Appends what to write in place of a statement at fault, where these symbols are defined.
+#[tactic(auto, unfolding(crate::specs::Advice::body_advice))]
+fn add_body_advice(
+    out: &mut Vec<u8>,
+    fault: AsmFault,
+    defined: &NameSet<'_>,
+    body: &[Token<'_>],
+) -> Result<(), AllocError>
+    ensures { OnOk result (out.new.items
+        ≡ out.old.items ++ body_advice fault (holds defined.now) (tokens_in body.now)) }
+{
+    match fault {
+        AsmFault::UnknownMnemonic => add_statement_advice(out, body),
+        AsmFault::UnknownSymbol => match unknown_name(fault, defined, body) {
+            Some(name) => add_register_advice(out, name),
+            None => Ok(()),
+        },
+        AsmFault::BadOperands => add_operands_advice(out, defined, body),
+        AsmFault::OutOfRange => match first_name(body) {
+            Some(name) => add_text(out, range_advice(name)),
+            None => Ok(()),
+        },
+        _ => Ok(()),
+    }
+}
+
+/// Appends what to write in place of what is at fault on a line with these tokens, where these symbols are defined and
+/// so many lines of the job stand before the assembly.
+#[tactic(auto, unfolding(crate::specs::Advice::advice))]
+pub(crate) fn add_advice(
+    out: &mut Vec<u8>,
+    before: usize,
+    fault: AsmFault,
+    defined: &NameSet<'_>,
+    line: &[u8],
+    tokens: &[Token<'_>],
+) -> Result<(), AllocError>
+    ensures { OnOk result (out.new.items
+        ≡ out.old.items ++ advice before fault (holds defined.now) line.now (tokens_in tokens.now)) }
+{
+    match fault {
+        AsmFault::BadToken => add_text(out, bytes_advice(before, line)),
+        _ => add_body_advice(out, fault, defined, after_labels(tokens)),
+    }
+}

@@ -1,0 +1,80 @@
+ghost use Rattle.std.specs.Prelude.{◌≡◌};
+ghost use Rattle.rv_refusal.specs.ByteAdvice.{byte_advice, bytes_advice, is_mark, mark_advice, reads_as_part};
+
+use crate::caret::token_place;
+use crate::name_on::{goes_on_with, key_on};
+
+fn is_mark(marks: &[u8], byte: u8) -> bool
+    ensures { result ≡ is_mark marks.now byte }
+{
+    marks.contains(&byte)
+}
+
+// What to write in place of an operator, a bracket, a quote or a sign of other assemblers.
+#[tactic(auto, unfolding(crate::specs::ByteAdvice::mark_advice))]
+fn mark_advice(byte: u8) -> &'static [u8]
+    ensures { result.now ≡ mark_advice byte }
+{
+    if is_mark(b";/", byte) {
+        return b"hint: a comment begins with #, and a line has one statement\n";
+    }
+    if byte == b'\'' {
+        return b"hint: a character is written as its number, as 65 for A\n";
+    }
+    if byte == b'%' {
+        return b"hint: la loads the address of a symbol, without %hi and %lo\n";
+    }
+    if byte == b'"' {
+        return b"hint: a string ends on its line, and after \\ stands one of n t \\ \" 0\n";
+    }
+    if is_mark(b"*<>&|^~!", byte) {
+        return b"hint: a symbol and a number may be added or subtracted, as in table+4\n";
+    }
+    if byte == b'=' {
+        return b"hint: .equ gives a name its number, as in .equ size, 64\n";
+    }
+    if is_mark(b"[{", byte) {
+        return b"hint: an address is written as offset(register), as in 8(sp)\n";
+    }
+    if byte == b'@' {
+        return b"hint: a line of .type may be left out, and a comment begins with #\n";
+    }
+    b""
+}
+
+// What to write in place of what begins with a byte and is no token.
+#[tactic(auto, unfolding(crate::specs::ByteAdvice::byte_advice))]
+fn byte_advice(byte: u8) -> &'static [u8]
+    ensures { result.now ≡ byte_advice byte }
+{
+    if byte.is_ascii_digit() {
+        return b"hint: a number is decimal, or has 0x or 0b before it, and is at most 4294967295; no name begins with a digit\n";
+    }
+    if byte > 127 {
+        return b"hint: this byte is not ASCII, as a blank, a quote or a minus of a word processor is none\n";
+    }
+    mark_advice(byte)
+}
+
+// Whether a line reads as a separator or as a heading of a table, or as one with a key where the assembly begins on the
+// job's first line.
+fn reads_as_part(before: usize, line: &[u8]) -> bool
+    ensures { result ≡ reads_as_part before line.now }
+{
+    goes_on_with(b'%', line) || goes_on_with(b'[', line) || (before == 0 && key_on(line).is_some())
+}
+
+/// What to write in place of the first bytes of a line that are no token; nothing where another part of the job may be
+/// meant.
+#[tactic(auto, unfolding(crate::specs::ByteAdvice::bytes_advice))]
+pub(crate) fn bytes_advice(before: usize, line: &[u8]) -> &'static [u8]
+    ensures { result.now ≡ bytes_advice before line.now }
+{
+    if reads_as_part(before, line) {
+        return b"";
+    }
+    match line.get(token_place(line, line.len())) {
+        Some(byte) => byte_advice(*byte),
+        None => b"",
+    }
+}

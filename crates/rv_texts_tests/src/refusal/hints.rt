@@ -1,0 +1,201 @@
+use crate::refusal::{check_end, check_ends};
+use std::test::Fail;
+
+const COMMENT: &str = "\nhint: a comment begins with #, and a line has one statement\n";
+
+const CHARACTER: &str = "\nhint: a character is written as its number, as 65 for A\n";
+
+const STRING: &str = "\nhint: a string ends on its line, and after \\ stands one of n t \\ \" 0\n";
+
+const SUM: &str = "\nhint: a symbol and a number may be added or subtracted, as in table+4\n";
+
+const OFFSET: &str = "\nhint: an address is written as offset(register), as in 8(sp)\n";
+
+const NUMBER: &str =
+    "\nhint: a number is decimal, or has 0x or 0b before it, and is at most 4294967295; no name begins with a digit\n";
+
+const LEFT_OUT: &str = "\nhint: this line may be left out\n";
+
+const MACROS: &str = "\nhint: there are no macros and no conditions: the lines stand themselves\n";
+
+const TWO_WORDS: &str = "\nnearest: .word\nhint: two words, the lower one first\n";
+
+const COMMA: &str = "\nhint: a comma stands between two operands\n";
+
+const ADDRESS: &str =
+    "\nhint: an address is in a register: la t0, symbol loads it, and 0(t0) is the word there\n";
+
+// Lines with bytes that are no token, and what to write instead.
+static BYTES: [(&str, &str); 22] = [
+    ("nop // again", COMMENT),
+    ("nop ; nop", COMMENT),
+    ("li a0, 'A'", CHARACTER),
+    (".ascii \"a", STRING),
+    ("li a0, 2*3", SUM),
+    ("li a0, (1<<3)", SUM),
+    ("li a0, 8>>1", SUM),
+    ("li a0, 6&3", SUM),
+    ("li a0, 6|3", SUM),
+    ("li a0, 6^3", SUM),
+    ("li a0, ~6", SUM),
+    ("li a0, !6", SUM),
+    (
+        "%%\na = 5",
+        "\nhint: .equ gives a name its number, as in .equ size, 64\n",
+    ),
+    ("lw a0, [sp]", OFFSET),
+    ("lw a0, {sp}", OFFSET),
+    (
+        ".type main, @function",
+        "\nhint: a line of .type may be left out, and a comment begins with #\n",
+    ),
+    (
+        "li a0,\u{a0}5",
+        "\nhint: this byte is not ASCII, as a blank, a quote or a minus of a word processor is none\n",
+    ),
+    (
+        "li a0, 5\u{7f}",
+        "\nexpected: names, numbers up to 4294967295, strings that end on their line, and the marks , : ( ) + -\n",
+    ),
+    ("li a0, 0X10", NUMBER),
+    ("beq a0, a1, 1b", NUMBER),
+    ("2nd: nop", NUMBER),
+    ("li a0, 4294967296", NUMBER),
+];
+
+// Statements of other assemblers and machines, and what to write instead.
+static COUNTERPARTS: [(&str, &str); 30] = [
+    ("b f", "\nnearest: j\n"),
+    ("jmp f", "\nnearest: j\n"),
+    ("tail f", "\nnearest: j\n"),
+    ("subi a0, a0, 1", "\nnearest: addi\n"),
+    ("mov a0, a1", "\nnearest: mv\n"),
+    ("move a0, a1", "\nnearest: mv\n"),
+    ("lla a0, s", "\nnearest: la\n"),
+    ("ld a0, 0(sp)", "\nnearest: lw\n"),
+    ("lwu a0, 0(sp)", "\nnearest: lw\n"),
+    ("sd a0, 0(sp)", "\nnearest: sw\n"),
+    ("scall", "\nnearest: ecall\n"),
+    ("syscall", "\nnearest: ecall\n"),
+    ("sret", "\nnearest: mret\n"),
+    ("uret", "\nnearest: mret\n"),
+    (".section .rodata", "\nnearest: .text, .data\n"),
+    (".rodata", "\nnearest: .data\n"),
+    (".rdata", "\nnearest: .data\n"),
+    (".bss", "\nnearest: .data\n"),
+    (".sdata", "\nnearest: .data\n"),
+    (".sbss", "\nnearest: .data\n"),
+    (".comm x, 4", "\nnearest: .zero\n"),
+    (".lcomm x, 4", "\nnearest: .zero\n"),
+    (".quad 5", TWO_WORDS),
+    (".dword 5", TWO_WORDS),
+    (".8byte 5", TWO_WORDS),
+    (".macro m", MACROS),
+    (".rept 3", MACROS),
+    (".if 1", MACROS),
+    (".include \"a\"", MACROS),
+    (".endm", MACROS),
+];
+
+// Directives that say nothing to this machine.
+static IDLE: [&str; 9] = [
+    ".option norvc",
+    ".size f, 4",
+    ".file \"a.c\"",
+    ".ident \"a\"",
+    ".attribute 4, 16",
+    ".end",
+    ".weak f",
+    ".local f",
+    ".loc 1 1",
+];
+
+// Names that read as labels, and others that do not.
+static LABELS: [(&str, &str); 6] = [
+    (
+        "frob",
+        "\nhint: a label has a colon after it, as in frob:\n",
+    ),
+    (
+        "frob addi a0, a0, 1",
+        "\nhint: a label has a colon after it, as in frob:\n",
+    ),
+    (
+        "frob x1",
+        "\nexpected: a statement that begins with an instruction or a directive\n",
+    ),
+    ("1: nop", "\nhint: a label is a name, as in again:\n"),
+    (
+        "my-loop: nop",
+        "\nhint: a name has letters, digits, _ . and $\n",
+    ),
+    (
+        "1, nop",
+        "\nexpected: a statement that begins with an instruction or a directive\n",
+    ),
+];
+
+// Statements with other operands, and what to write instead.
+static OPERANDS: [(&str, &str); 28] = [
+    (
+        "addi a0, a1, a2",
+        "\nhint: a2 is a register, and a symbol or a number stands here\n",
+    ),
+    (
+        "j t0",
+        "\nhint: t0 is a register, and a symbol or a number stands here\n",
+    ),
+    ("add a0 a1 a2", COMMA),
+    ("li a0 5", COMMA),
+    (".word 1 2 3", COMMA),
+    ("li a0, 5 a1", COMMA),
+    ("add a0, a1, -5", "\nhint: with a number it is addi\n"),
+    ("and a0, a1, 5", "\nhint: with a number it is andi\n"),
+    ("or a0, a1, 5", "\nhint: with a number it is ori\n"),
+    ("xor a0, a1, 5", "\nhint: with a number it is xori\n"),
+    ("slt a0, a1, 5", "\nhint: with a number it is slti\n"),
+    ("sll a0, a1, 5", "\nhint: with a number it is slli\n"),
+    ("srl a0, a1, 5", "\nhint: with a number it is srli\n"),
+    ("sra a0, a1, 5", "\nhint: with a number it is srai\n"),
+    (
+        "sub a0, a1, 5",
+        "\nhint: with a number it is addi, and the number has the other sign\n",
+    ),
+    ("mv a0, 5", "\nhint: with a number it is li\n"),
+    (
+        "sltu a0, a1, 5",
+        "\nexpected: sltu rd, rs1, rs2, as in 'sltu x5, x6, x7'\n",
+    ),
+    ("lb a0, s", ADDRESS),
+    ("lh a0, s", ADDRESS),
+    ("lw a0, s", ADDRESS),
+    ("lbu a0, s", ADDRESS),
+    ("lhu a0, s", ADDRESS),
+    ("sb a0, s, t0", ADDRESS),
+    ("sh a0, s, t0", ADDRESS),
+    ("sw a0, s, t0", ADDRESS),
+    (
+        "lw a0, 5",
+        "\nexpected: lw rd, offset(rs1), as in 'lw x5, 8(x6)'\n",
+    ),
+    (
+        "la a0, (s)",
+        "\nexpected: la rd, symbol, as in 'la x5, loop'\n",
+    ),
+    (
+        "auipc a0, 0x100000",
+        "\nexpected: a value from 0 to 1048575\n",
+    ),
+];
+
+#[test]
+fn a_refusal_says_what_to_write_instead(rt: HostRuntime) -> Result<(), Fail> {
+    check_ends(&rt, rt.alloc(), &BYTES)?;
+    check_ends(&rt, rt.alloc(), &COUNTERPARTS)?;
+    check_ends(&rt, rt.alloc(), &LABELS)?;
+    check_ends(&rt, rt.alloc(), &OPERANDS)?;
+    for job in &IDLE {
+        check_end(&rt, rt.alloc(), job, LEFT_OUT)?;
+    }
+    Ok(())
+}
