@@ -1,5 +1,5 @@
 -- What to write in place of a statement at fault, where it is known what was meant.
-use Rattle.std.specs.Prelude.{ℕ, List, [], ◌∷◌, ◌++◌, codes, Bool, true, false, ◌&&◌, if◌then◌else◌}
+use Rattle.std.specs.Prelude.{ℕ, List, [], ◌∷◌, ◌++◌, codes, Bool, true, false, ◌&&◌, ◌||◌, if◌then◌else◌}
 use Rattle.std.specs.Prelude.{Option, Some, None, is_some}
 use Rattle.std.specs.{Option.option_map_or, Str.bytes_eq}
 use Rattle.rv_asm.specs.Layout.{body_of}
@@ -13,7 +13,7 @@ use Rattle.rv_refusal.specs.Culprit.{operand_of_fault}
 use Rattle.rv_refusal.specs.Names.{registers, unknown_name}
 use Rattle.rv_refusal.specs.NameOn.{begins_with}
 use Rattle.rv_refusal.specs.NameSet.{is_one_of}
-use Rattle.rv_refusal.specs.Near.{counterpart}
+use Rattle.rv_refusal.specs.Near.{counterpart, in_small_letters}
 use Rattle.rv_refusal.specs.Statement.{first_name}
 
 -- a directive of other assemblers that says nothing to this machine
@@ -46,10 +46,14 @@ directive_advice name =
     else (if is_of_two_words name then codes "hint: two words, the lower one first\n"
     else []))
 
+-- a name is known otherwise: from other assemblers, or in small letters
+abbrev pub is_known_otherwise : List ℕ → Bool
+is_known_otherwise name = is_some (counterpart name) || is_some (form_named (in_small_letters name))
+
 -- what to write in place of a statement with an unknown mnemonic
 unfoldable pub label_advice : List ℕ → List Token → List ℕ
 label_advice name body =
-    if is_some (counterpart name) then []
+    if is_known_otherwise name then []
     else (if reads_as_label body then codes "hint: a label has a colon after it, as in " ++ (name ++ codes ":\n")
     else [])
 

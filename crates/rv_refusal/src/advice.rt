@@ -1,7 +1,8 @@
-ghost use Rattle.std.specs.Prelude.{◌≡◌, ◌++◌, OnOk};
+ghost use Rattle.std.specs.Prelude.{◌≡◌, ◌++◌, IfOk, OnOk};
 ghost use Rattle.rv_asm.specs.Read.{token_of, tokens_in};
 ghost use Rattle.rv_refusal.specs.Advice.{accesses_memory, advice, begins_with_number, body_advice};
-ghost use Rattle.rv_refusal.specs.Advice.{directive_advice, is_of_two_words, is_word, label_advice, lacks_comma};
+ghost use Rattle.rv_refusal.specs.Advice.{directive_advice, is_known_otherwise, is_of_two_words, is_word};
+ghost use Rattle.rv_refusal.specs.Advice.{label_advice, lacks_comma};
 ghost use Rattle.rv_refusal.specs.Advice.{makes_lines, may_be_left_out, name_advice, operand_advice, operands_advice};
 ghost use Rattle.rv_refusal.specs.Advice.{range_advice, reads_as_label, register_advice, statement_advice, with_number};
 ghost use Rattle.rv_refusal.specs.NameSet.{holds};
@@ -16,7 +17,7 @@ use crate::statement::{after_labels, first_name};
 use crate::text::{add_all, add_text};
 use crate::unknown::{counterpart, unknown_name};
 use rv_asm::{AsmFault, Token, form_named};
-use std::alloc::AllocError;
+use std::alloc::{AllocError, Global};
 
 // Whether a directive of other assemblers says nothing to this machine.
 fn may_be_left_out(name: &[u8]) -> bool
@@ -93,12 +94,31 @@ fn directive_advice(name: &[u8]) -> &'static [u8]
     b""
 }
 
+// Whether a name is known otherwise: from other assemblers, or in small letters.
+fn is_known_otherwise(alloc: Global, name: &[u8]) -> Result<bool, AllocError>
+    ensures { IfOk result (λ known. known ≡ is_known_otherwise name.now) }
+{
+    if counterpart(name).is_some() {
+        return Ok(true);
+    }
+    let small = name.to_ascii_lowercase(alloc)?;
+    Ok(form_named(small.as_slice()).is_some())
+}
+
 // Appends what to write in place of a statement with an unknown mnemonic.
 #[tactic(auto, unfolding(crate::specs::Advice::label_advice))]
-fn add_label_advice(out: &mut Vec<u8>, name: &[u8], body: &[Token<'_>]) -> Result<(), AllocError>
+fn add_label_advice(
+    alloc: Global,
+    out: &mut Vec<u8>,
+    name: &[u8],
+    body: &[Token<'_>],
+) -> Result<(), AllocError>
     ensures { OnOk result (out.new.items ≡ out.old.items ++ label_advice name.now (tokens_in body.now)) }
 {
-    if counterpart(name).is_some() || !reads_as_label(body) {
+    if is_known_otherwise(alloc, name)? {
+        return Ok(());
+    }
+    if !reads_as_label(body) {
         return Ok(());
     }
     add_all(
@@ -108,19 +128,28 @@ fn add_label_advice(out: &mut Vec<u8>, name: &[u8], body: &[Token<'_>]) -> Resul
 }
 
 // Appends what to write in place of a statement with an unknown name.
-fn add_name_advice(out: &mut Vec<u8>, body: &[Token<'_>], name: &[u8]) -> Result<(), AllocError>
+fn add_name_advice(
+    alloc: Global,
+    out: &mut Vec<u8>,
+    body: &[Token<'_>],
+    name: &[u8],
+) -> Result<(), AllocError>
     ensures { OnOk result (out.new.items ≡ out.old.items ++ name_advice (tokens_in body.now) name.now) }
 {
     if begins_with(b'.', name) {
         add_text(out, directive_advice(name))
     } else {
-        add_label_advice(out, name, body)
+        add_label_advice(alloc, out, name, body)
     }
 }
 
 // Appends what to write in place of a statement whose name is unknown or that has none.
 #[tactic(auto, unfolding(crate::specs::Advice::statement_advice))]
-fn add_statement_advice(out: &mut Vec<u8>, body: &[Token<'_>]) -> Result<(), AllocError>
+fn add_statement_advice(
+    alloc: Global,
+    out: &mut Vec<u8>,
+    body: &[Token<'_>],
+) -> Result<(), AllocError>
     ensures { OnOk result (out.new.items ≡ out.old.items ++ statement_advice (tokens_in body.now)) }
 {
     match body {
@@ -130,7 +159,7 @@ fn add_statement_advice(out: &mut Vec<u8>, body: &[Token<'_>]) -> Result<(), All
         [Token::Name(_), Token::Minus, ..] => {
             add_text(out, b"hint: a name has letters, digits, _ . and $\n")
         }
-        [Token::Name(name), ..] => add_name_advice(out, body, name),
+        [Token::Name(name), ..] => add_name_advice(alloc, out, body, name),
         _ => Ok(()),
     }
 }
@@ -271,6 +300,7 @@ fn range_advice(name: &[u8]) -> &'static [u8]
 // Appends what to write in place of a statement at fault, where these symbols are defined.
 #[tactic(auto, unfolding(crate::specs::Advice::body_advice))]
 fn add_body_advice(
+    alloc: Global,
     out: &mut Vec<u8>,
     fault: AsmFault,
     defined: &NameSet<'_>,
@@ -280,7 +310,7 @@ fn add_body_advice(
         ≡ out.old.items ++ body_advice fault (holds defined.now) (tokens_in body.now)) }
 {
     match fault {
-        AsmFault::UnknownMnemonic => add_statement_advice(out, body),
+        AsmFault::UnknownMnemonic => add_statement_advice(alloc, out, body),
         AsmFault::UnknownSymbol => match unknown_name(fault, defined, body) {
             Some(name) => add_register_advice(out, name),
             None => Ok(()),
@@ -298,6 +328,7 @@ fn add_body_advice(
 /// so many lines of the job stand before the assembly.
 #[tactic(auto, unfolding(crate::specs::Advice::advice))]
 pub(crate) fn add_advice(
+    alloc: Global,
     out: &mut Vec<u8>,
     before: usize,
     fault: AsmFault,
@@ -310,6 +341,6 @@ pub(crate) fn add_advice(
 {
     match fault {
         AsmFault::BadToken => add_text(out, bytes_advice(before, line)),
-        _ => add_body_advice(out, fault, defined, after_labels(tokens)),
+        _ => add_body_advice(alloc, out, fault, defined, after_labels(tokens)),
     }
 }

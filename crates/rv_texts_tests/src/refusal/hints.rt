@@ -111,7 +111,7 @@ static IDLE: [&str; 9] = [
 ];
 
 // Names that read as labels, and others that do not.
-static LABELS: [(&str, &str); 6] = [
+static LABELS: [(&str, &str); 7] = [
     (
         "frob",
         "\nhint: a label has a colon after it, as in frob:\n",
@@ -124,6 +124,7 @@ static LABELS: [(&str, &str); 6] = [
         "frob x1",
         "\nexpected: a statement that begins with an instruction or a directive\n",
     ),
+    ("EBREAK", "\nnames are written in small letters: ebreak\n"),
     ("1: nop", "\nhint: a label is a name, as in again:\n"),
     (
         "my-loop: nop",
