@@ -11,9 +11,14 @@ use Rattle.rv_refusal.specs.Names.{known_names, unknown_name}
 use Rattle.rv_refusal.specs.NameOn.{begins_with}
 use Rattle.rv_refusal.specs.NameSet.{is_one_of}
 
--- the known names that are one edit away, and then those that are two away; at most three
+-- names, or else others
+abbrev pub or_else : List (List ℕ) → List (List ℕ) → List (List ℕ)
+or_else [] others = others
+or_else (first ∷ rest) others = first ∷ rest
+
+-- the known names that are one edit away, or else those that are two away; at most three
 abbrev pub nearest : List ℕ → List (List ℕ) → List (List ℕ)
-nearest name known = take 3 (filter (is_near 1 name) known ++ filter (is_near 2 name) known)
+nearest name known = take 3 (or_else (filter (is_near 1 name) known) (filter (is_near 2 name) known))
 
 -- names, each after a comma and a blank
 abbrev pub other_names : List (List ℕ) → List ℕ

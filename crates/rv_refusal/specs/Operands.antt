@@ -56,10 +56,18 @@ operand_list word mark (place ∷ places) =
     if is_implied place then operand_list word mark places
     else mark ++ (word place ++ operand_list word (codes ", ") places)
 
+-- the places of an instruction; those of a pseudo-instruction that reads its registers in the other order, or rs2 alone, are
+-- counted as they are written
+unfoldable pub as_written : Place → Place → Place → List Place
+as_written place.Rs2 place.Rs1 third = place.Rs1 ∷ place.Rs2 ∷ third ∷ []
+as_written place.Rs2 place.Target third = place.Rs1 ∷ place.Target ∷ third ∷ []
+as_written place.Rd place.Rs2 third = place.Rd ∷ place.Rs1 ∷ third ∷ []
+as_written first second third = first ∷ second ∷ third ∷ []
+
 -- the places that a form's operands may fill, one list for each shape
 abbrev pub shapes : Form → List (List Place)
 shapes form.Nothing = []
-shapes (form.Instruction operation first second third) = (first ∷ second ∷ third ∷ []) ∷ []
+shapes (form.Instruction operation first second third) = as_written first second third ∷ []
 shapes form.Jal = (place.Target ∷ []) ∷ (place.Rd ∷ place.Target ∷ []) ∷ []
 shapes form.Jalr = (place.Rs1 ∷ []) ∷ (place.Rd ∷ place.Base ∷ []) ∷ (place.Rd ∷ place.Rs1 ∷ place.Value ∷ []) ∷ []
 shapes (form.Choice section) = [] ∷ []

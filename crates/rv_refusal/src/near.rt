@@ -37,7 +37,9 @@ fn nearest<'a>(alloc: Global, name: &[u8], known: &[&'a [u8]]) -> Result<Vec<&'a
 {
     let mut found = Vec::new(alloc);
     add_near(alloc, &mut found, 1, name, known)?;
-    add_near(alloc, &mut found, 2, name, known)?;
+    if found.is_empty() {
+        add_near(alloc, &mut found, 2, name, known)?;
+    }
     found.truncate(3);
     Ok(found)
 }

@@ -1,5 +1,5 @@
 ghost use Rattle.std.specs.Prelude.{◌≡◌, ◌++◌, OnOk, codes};
-ghost use Rattle.rv_refusal.specs.Operands.{operand_example, operand_list, operand_word};
+ghost use Rattle.rv_refusal.specs.Operands.{as_written, operand_example, operand_list, operand_word};
 ghost use Rattle.rv_refusal.specs.Operands.{place_limit, place_word, shape_line, shape_lines};
 
 use crate::text::{add_all, add_number, add_text};
@@ -108,6 +108,20 @@ fn add_shape(out: &mut Vec<u8>, name: &[u8], places: &[Place]) -> Result<(), All
     add_text(out, b"'\n")
 }
 
+// The places of an instruction; those of a pseudo-instruction that reads its registers in the other order, or rs2 alone,
+// are counted as they are written.
+#[tactic(auto, unfolding(crate::specs::Operands::as_written))]
+fn as_written(first: Place, second: Place, third: Place) -> [Place; 3]
+    ensures { result ≡ as_written first second third }
+{
+    match (first, second) {
+        (Place::Rs2, Place::Rs1) => [Place::Rs1, Place::Rs2, third],
+        (Place::Rs2, Place::Target) => [Place::Rs1, Place::Target, third],
+        (Place::Rd, Place::Rs2) => [Place::Rd, Place::Rs1, third],
+        _ => [first, second, third],
+    }
+}
+
 // Appends the lines on the shapes of a jump with a target.
 #[tactic(auto, unfolding(crate::specs::Operands::shape_lines))]
 fn add_jal_shapes(out: &mut Vec<u8>, name: &[u8]) -> Result<(), AllocError>
@@ -144,7 +158,7 @@ pub(crate) fn add_shapes(out: &mut Vec<u8>, name: &[u8], form: Form) -> Result<(
     match form {
         Form::Nothing => Ok(()),
         Form::Instruction(_, first, second, third) => {
-            add_shape(out, name, &[first, second, third])
+            add_shape(out, name, &as_written(first, second, third))
         }
         Form::Jal => add_jal_shapes(out, name),
         Form::Jalr => add_jalr_shapes(out, name),

@@ -46,10 +46,33 @@ static RANGES: [(&str, &str); 16] = [
 ];
 
 // Statements with operands that they do not have, and those that they may have.
-static SHAPES: [(&str, &str); 16] = [
+static SHAPES: [(&str, &str); 24] = [
     (
         "add x1",
         "\nexpected: add rd, rs1, rs2, as in 'add x5, x6, x7'\n",
+    ),
+    (
+        "ble x1, loop",
+        "\nexpected: ble rs1, rs2, symbol, as in 'ble x6, x7, loop'\n",
+    ),
+    (
+        "blez x1",
+        "\nexpected: blez rs1, symbol, as in 'blez x6, loop'\n",
+    ),
+    ("neg x1", "\nexpected: neg rd, rs1, as in 'neg x5, x6'\n"),
+    ("snez x1", "\nexpected: snez rd, rs1, as in 'snez x5, x6'\n"),
+    ("seqz x1", "\nexpected: seqz rd, rs1, as in 'seqz x5, x6'\n"),
+    (
+        "beqz x1",
+        "\nexpected: beqz rs1, symbol, as in 'beqz x6, loop'\n",
+    ),
+    (
+        "beq x1",
+        "\nexpected: beq rs1, rs2, symbol, as in 'beq x6, x7, loop'\n",
+    ),
+    (
+        "sw x1",
+        "\nexpected: sw rs2, offset(rs1), as in 'sw x7, 8(x6)'\n",
     ),
     (
         "lw x1",

@@ -19,7 +19,7 @@ line 1 of the job, line 1 of its assembly: UnknownMnemonic
     again: addq x1, x2, x3
            ^
 expected: a statement that begins with an instruction or a directive
-nearest: addi, add, andi
+nearest: addi, add
 ",
     },
     Refused {

@@ -183,7 +183,7 @@ line 2 of the job, line 2 of its description
       set = 4
       ^
 expected: a key or a table of a description
-nearest: cache.sets, cache.hit
+nearest: cache.sets
 ",
     },
     Refused {
