@@ -63,6 +63,14 @@ pub(crate) fn add_assembly(
         symbols,
         tokens.as_slice(),
     )?;
-    add_advice(out, before, error.fault, &defined, line, tokens.as_slice())?;
+    add_advice(
+        alloc,
+        out,
+        before,
+        error.fault,
+        &defined,
+        line,
+        tokens.as_slice(),
+    )?;
     add_further(alloc, out, before, error.line, assembly)
 }
