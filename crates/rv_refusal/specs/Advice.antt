@@ -1,6 +1,6 @@
 -- What to write in place of a statement at fault, where it is known what was meant.
-use Rattle.std.specs.Prelude.{ℕ, List, [], ◌∷◌, ◌++◌, codes, Bool, true, false, ◌&&◌, ◌||◌, if◌then◌else◌}
-use Rattle.std.specs.Prelude.{Option, Some, None, is_some}
+use Rattle.std.specs.Prelude.{ℕ, List, [], ◌∷◌, ◌++◌, codes, Bool, true, false, ◌||◌, if◌then◌else◌}
+use Rattle.std.specs.Prelude.{is_some}
 use Rattle.std.specs.{Option.option_map_or, Str.bytes_eq}
 use Rattle.rv_asm.specs.Layout.{body_of}
 use Rattle.rv_asm.specs.Mnemonic.{form_named}
@@ -105,13 +105,18 @@ abbrev pub accesses_memory : List ℕ → Bool
 accesses_memory name =
     is_one_of (codes "lb" ∷ codes "lh" ∷ codes "lw" ∷ codes "lbu" ∷ codes "lhu" ∷ codes "sb" ∷ codes "sh" ∷ codes "sw" ∷ []) name
 
+-- what to write in place of a name where an address is to stand
+unfoldable pub address_advice : List ℕ → List ℕ
+address_advice name =
+    if is_one_of registers name then codes "hint: an address is written as offset(register), as in 8(sp)\n"
+    else codes "hint: an address is in a register: la t0, symbol loads it, and 0(t0) is the word there\n"
+
 -- what to write in place of an operand, from its first token on
 unfoldable pub operand_advice : List ℕ → List Token → List ℕ
 operand_advice name operand =
     if lacks_comma operand then codes "hint: a comma stands between two operands\n"
     else (if begins_with_number operand then with_number name
-    else (if accesses_memory name && is_some (first_name operand)
-    then codes "hint: an address is in a register: la t0, symbol loads it, and 0(t0) is the word there\n"
+    else (if accesses_memory name then option_map_or address_advice (first_name operand) []
     else []))
 
 -- what to write in place of the operand at fault

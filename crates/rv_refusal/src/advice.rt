@@ -1,6 +1,6 @@
 ghost use Rattle.std.specs.Prelude.{◌≡◌, ◌++◌, IfOk, OnOk};
 ghost use Rattle.rv_asm.specs.Read.{token_of, tokens_in};
-ghost use Rattle.rv_refusal.specs.Advice.{accesses_memory, advice, begins_with_number, body_advice};
+ghost use Rattle.rv_refusal.specs.Advice.{accesses_memory, address_advice, advice, begins_with_number, body_advice};
 ghost use Rattle.rv_refusal.specs.Advice.{directive_advice, is_known_otherwise, is_of_two_words, is_word};
 ghost use Rattle.rv_refusal.specs.Advice.{label_advice, lacks_comma};
 ghost use Rattle.rv_refusal.specs.Advice.{makes_lines, may_be_left_out, name_advice, operand_advice, operands_advice};
@@ -243,6 +243,18 @@ fn accesses_memory(name: &[u8]) -> bool
     )
 }
 
+// What to write in place of a name where an address is to stand.
+#[tactic(auto, unfolding(crate::specs::Advice::address_advice))]
+fn address_advice(name: &[u8]) -> &'static [u8]
+    ensures { result.now ≡ address_advice name.now }
+{
+    if is_among(name, registers()) {
+        b"hint: an address is written as offset(register), as in 8(sp)\n"
+    } else {
+        b"hint: an address is in a register: la t0, symbol loads it, and 0(t0) is the word there\n"
+    }
+}
+
 // Appends what to write in place of an operand, from its first token on.
 #[tactic(auto, unfolding(crate::specs::Advice::operand_advice))]
 fn add_operand_advice(
@@ -258,13 +270,13 @@ fn add_operand_advice(
     if begins_with_number(operand) {
         return add_with_number(out, name);
     }
-    if accesses_memory(name) && first_name(operand).is_some() {
-        return add_text(
-            out,
-            b"hint: an address is in a register: la t0, symbol loads it, and 0(t0) is the word there\n",
-        );
+    if !accesses_memory(name) {
+        return Ok(());
     }
-    Ok(())
+    match first_name(operand) {
+        Some(name) => add_text(out, address_advice(name)),
+        None => Ok(()),
+    }
 }
 
 // Appends what to write in place of the operand at fault.

@@ -137,7 +137,7 @@ static LABELS: [(&str, &str); 7] = [
 ];
 
 // Statements with other operands, and what to write instead.
-static OPERANDS: [(&str, &str); 28] = [
+static OPERANDS: [(&str, &str); 29] = [
     (
         "addi a0, a1, a2",
         "\nhint: a2 is a register, and a symbol or a number stands here\n",
@@ -175,6 +175,7 @@ static OPERANDS: [(&str, &str); 28] = [
     ("sb a0, s, t0", ADDRESS),
     ("sh a0, s, t0", ADDRESS),
     ("sw a0, s, t0", ADDRESS),
+    ("sw a0, a1", OFFSET),
     (
         "lw a0, 5",
         "\nexpected: lw rd, offset(rs1), as in 'lw x5, 8(x6)'\n",
