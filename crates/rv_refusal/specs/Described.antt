@@ -1,5 +1,5 @@
 -- Why a description is refused.
-use Rattle.std.specs.Prelude.{ℕ, ◌-◌, ◌==◌, ◌&&◌, Bool, not, List, [], ◌∷◌, ◌++◌}
+use Rattle.std.specs.Prelude.{ℕ, ◌-◌, ◌==◌, ◌&&◌, Bool, not, List, [], ◌++◌}
 use Rattle.std.specs.Prelude.{codes, if◌then◌else◌, is_none, Option, None, option_map, unwrap_or}
 use Rattle.std.specs.{List.list_any, List.slice_get, Option.option_map_or, Option.option_or, Str.bytes_eq}
 use Rattle.rv_isa.specs.declared.keys.Key.{Key}
@@ -9,11 +9,11 @@ use Rattle.rv_describe.specs.declared.description_error.DescriptionError.{Descri
 use Rattle.rv_describe.specs.declared.description_error.DescriptionError.TheVariants.{NotToml, UnknownKey}
 use Rattle.rv_refusal.specs.Caret.{caret_below}
 use Rattle.rv_refusal.specs.EntryLine.{EntryLine, element_named, first_sought}
+use Rattle.rv_refusal.specs.KeyHint.{key_hint}
 use Rattle.rv_refusal.specs.KeyLine.{KeyLine, first_named, is_none_of}
 use Rattle.rv_refusal.specs.KeyNames.{key_names, keys_named}
 use Rattle.rv_refusal.specs.KeyDefault.{values_line}
 use Rattle.rv_refusal.specs.NameOn.{table_on}
-use Rattle.rv_refusal.specs.Near.{hint_line, names_line}
 use Rattle.rv_refusal.specs.Place.{line_place, shown_line}
 use Rattle.rv_refusal.specs.TomlFault.{no_toml}
 
@@ -38,6 +38,7 @@ line_of_array found =
       number = found.number;
       line = found.line;
       before = found.before;
+      table = None;
       key = found.name;
       name = found.name;
     }
@@ -47,14 +48,16 @@ abbrev pub array_line : Key → List ℕ → Option KeyLine
 array_line key part =
     option_map line_of_array (first_sought (λ count line. element_named (table_of key) line) part)
 
--- the first line of a description on which the table of a key stands, or else that as an array of tables
-unfoldable pub line_of_table : Key → List ℕ → Option KeyLine
-line_of_table key part = option_or (first_named (λ name. bytes_eq name (table_of key)) part) (array_line key part)
-
 -- the first line of a description on which a key stands, or else its table
+unfoldable pub line_of_name : Key → List ℕ → Option KeyLine
+line_of_name key part =
+    option_or (first_named (λ name. bytes_eq name (text_of key)) part)
+    (first_named (λ name. bytes_eq name (table_of key)) part)
+
+-- the first line of a description on which the table of a key stands as an array of tables, or else the key, or else its
+-- table
 unfoldable pub line_of_key : Key → List ℕ → Option KeyLine
-line_of_key key part =
-    option_or (first_named (λ name. bytes_eq name (text_of key)) part) (line_of_table key part)
+line_of_key key part = option_or (array_line key part) (line_of_name key part)
 
 -- a line gives the table of a key a value that is none: it is no line of a table in brackets, and has no brace
 abbrev pub gives_no_table : Key → KeyLine → Bool
@@ -80,11 +83,6 @@ value_lines part key =
 -- what was expected in place of an unknown name
 unfoldable pub known_expected : List ℕ
 known_expected = codes "expected: a key or a table of a description\n"
-
--- the line on an unknown name by the keys that have it in another table, or else by the known names that it may stand for
-unfoldable pub key_hint : List (List ℕ) → KeyLine → List (List ℕ) → List ℕ
-key_hint known found [] = hint_line found.name known
-key_hint known found (key ∷ keys) = names_line (key ∷ keys)
 
 -- a line with an unknown name, what was expected there, and the known names that it may stand for
 unfoldable pub unknown_line : List (List ℕ) → KeyLine → List ℕ

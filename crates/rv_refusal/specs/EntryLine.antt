@@ -1,10 +1,10 @@
 -- The lines on which the entries of a list of arrivals stand, and their fields.
-use Rattle.std.specs.Prelude.{ℕ, ◌+◌, ◌==◌, ◌&&◌, Bool, is_some, List, [], ◌∷◌, drop, if◌then◌else◌}
+use Rattle.std.specs.Prelude.{ℕ, ◌+◌, ◌==◌, Bool, is_some, List, [], ◌∷◌, if◌then◌else◌}
 use Rattle.std.specs.Prelude.{Option, Some, None, option_map, option_and_then, codes}
 use Rattle.std.specs.{List.slice_split, Option.option_or, Str.bytes_eq}
 use Rattle.rv_refusal.specs.KeyLine.{is_none_of}
 use Rattle.rv_job.specs.Parts.{without_mark}
-use Rattle.rv_refusal.specs.NameOn.{NameOn, begins_with, blanks, key_on, name_after, table_on}
+use Rattle.rv_refusal.specs.NameOn.{NameOn, element_on, heading_on, key_on}
 use Rattle.rv_refusal.specs.declared.entry_line.{EntryLine.EntryLine as Found, Sought.Sought}
 use Rattle.rv_refusal.specs.declared.entry_line.Sought.TheVariants.{Entry, Field, Element, Unknown}
 
@@ -27,20 +27,9 @@ entry_line found =
       name = found.name.now;
     }
 
--- the element of an array of tables that a line begins: the array's name stands in two brackets
-unfoldable pub element_on : List ℕ → Option NameOn
-element_on line =
-    let before = blanks line in
-    if begins_with 91 (drop before line) && begins_with 91 (drop (before + 1) line)
-    then name_after (before + 2) 93 (drop (before + 2) line) else None
-
 -- a name on a line, if it passes a test
 abbrev pub if_passes : (List ℕ → Bool) → NameOn → Option NameOn
 if_passes test on = if test on.name then Some on else None
-
--- the name in the brackets of a heading, one before and after it or two
-abbrev pub heading_on : List ℕ → Option NameOn
-heading_on line = option_or (element_on line) (table_on line)
 
 -- the name of an entry that a line begins; one bracket is a mistake there
 abbrev pub entry_on : List ℕ → Option NameOn

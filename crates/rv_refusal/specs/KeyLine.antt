@@ -4,16 +4,17 @@ use Rattle.std.specs.Prelude.{Option, Some, None, option_map, option_and_then, o
 use Rattle.std.specs.{List.list_any, List.slice_split, Option.option_map_or, Option.option_or, Str.bytes_eq}
 use Rattle.rv_isa.specs.Key.{joined}
 use Rattle.rv_job.specs.Parts.{without_mark}
-use Rattle.rv_refusal.specs.NameOn.{NameOn, key_on, table_on}
+use Rattle.rv_refusal.specs.NameOn.{NameOn, heading_on, key_on}
 use Rattle.rv_refusal.specs.declared.key_line.{KeyLine.KeyLine as Found, Wanted.Wanted}
 use Rattle.rv_refusal.specs.declared.key_line.Wanted.TheVariants.{Unknown, Named}
 
--- a line with its number, the name that stands there, as it is written and with its table's before it, and how many bytes
--- stand before it
+-- a line with its number, the table that it stands in, the name that stands there, as it is written and with its table's
+-- before it, and how many bytes stand before it
 pub record KeyLine : Type 0 where
   pub number : ℕ
   pub line : List ℕ
   pub before : ℕ
+  pub table : Option (List ℕ)
   pub key : List ℕ
   pub name : List ℕ
 
@@ -24,6 +25,7 @@ key_line found =
       number = found.number;
       line = found.line.now;
       before = found.before;
+      table = option_copied found.table;
       key = found.name.now;
       name = joined (option_copied found.table) found.name.now;
     }
@@ -31,17 +33,24 @@ key_line found =
 -- the line with a number, where a name stands on it in a table
 abbrev pub line_of : ℕ → Option (List ℕ) → List ℕ → NameOn → KeyLine
 line_of number table line on =
-    record { number = number; line = line; before = on.before; key = on.name; name = joined table on.name }
+    record {
+      number = number;
+      line = line;
+      before = on.before;
+      table = table;
+      key = on.name;
+      name = joined table on.name;
+    }
 
--- the line with a number, if a name stands on it: a table's, or a key's in the table that the line stands in
+-- the line with a number, if a name stands on it: a heading's, or a key's in the table that the line stands in
 unfoldable pub named_line : ℕ → Option (List ℕ) → List ℕ → Option KeyLine
 named_line number table line =
-    option_or (option_map (line_of number None line) (table_on line))
+    option_or (option_map (line_of number None line) (heading_on line))
     (option_map (line_of number table line) (key_on line))
 
 -- the table that the lines after a line stand in
 abbrev pub table_after : Option (List ℕ) → List ℕ → Option (List ℕ)
-table_after table line = option_map_or (λ on. Some on.name) (table_on line) table
+table_after table line = option_map_or (λ on. Some on.name) (heading_on line) table
 
 -- a line, if its name passes a test
 abbrev pub if_named : (List ℕ → Bool) → KeyLine → Option KeyLine

@@ -1,5 +1,5 @@
 -- The names that a description may have: its keys and its tables.
-use Rattle.std.specs.Prelude.{ℕ, List, [], ◌∷◌, ◌++◌, map, if◌then◌else◌, Option, None}
+use Rattle.std.specs.Prelude.{ℕ, Bool, List, [], ◌∷◌, ◌++◌, map, if◌then◌else◌, Option, None}
 use Rattle.std.specs.{List.filter, Option.option_to_list, Str.bytes_eq}
 use Rattle.rv_isa.specs.declared.keys.Key.{Key}
 use Rattle.rv_isa.specs.Key.{key_place, order, text_of}
@@ -17,6 +17,14 @@ tables_from last (key ∷ others) = new_table (key_place key).table last ++ tabl
 -- the keys with their tables' names before them, and then the tables
 abbrev pub key_names : List (List ℕ)
 key_names = map text_of order ++ tables_from None order
+
+-- a key stands in a table, or in none
+unfoldable pub stands_in : Option (List ℕ) → Key → Bool
+stands_in table key = same_table (key_place key).table table
+
+-- of some keys those in a table, or those in none, by their names there
+abbrev pub names_in : Option (List ℕ) → List Key → List (List ℕ)
+names_in table keys = map (λ key. (key_place key).name) (filter (stands_in table) keys)
 
 -- of some keys those of a name, with their tables' names before them
 abbrev pub keys_named : List ℕ → List Key → List (List ℕ)

@@ -10,6 +10,7 @@ pub mod Expected
 pub mod Further
 pub mod HeldName
 pub mod KeyDefault
+pub mod KeyHint
 pub mod KeyLine
 pub mod KeyNames
 pub mod Lines

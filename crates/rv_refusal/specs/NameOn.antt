@@ -1,8 +1,8 @@
 -- The names on the lines of a text in TOML: a table's in brackets, and a key before `=`. A name is of bare keys with
 -- dots between them.
-use Rattle.std.specs.Prelude.{ℕ, ◌+◌, ◌==◌, ◌||◌, Bool, false, List, [], ◌∷◌}
+use Rattle.std.specs.Prelude.{ℕ, ◌+◌, ◌==◌, ◌&&◌, ◌||◌, Bool, false, List, [], ◌∷◌}
 use Rattle.std.specs.Prelude.{drop, take, if◌then◌else◌, Option, Some, None}
-use Rattle.std.specs.{Char.is_ascii_alphanumeric, List.prefix_len}
+use Rattle.std.specs.{Char.is_ascii_alphanumeric, List.prefix_len, Option.option_or}
 
 -- a blank or a tab
 abbrev pub is_blank : ℕ → Bool
@@ -45,6 +45,17 @@ unfoldable pub table_on : List ℕ → Option NameOn
 table_on line =
     let before = blanks line in
     if begins_with 91 (drop before line) then name_after (before + 1) 93 (drop (before + 1) line) else None
+
+-- the element of an array of tables that a line begins: the array's name stands in two brackets
+unfoldable pub element_on : List ℕ → Option NameOn
+element_on line =
+    let before = blanks line in
+    if begins_with 91 (drop before line) && begins_with 91 (drop (before + 1) line)
+    then name_after (before + 2) 93 (drop (before + 2) line) else None
+
+-- the name in the brackets of a heading, one before and after it or two
+unfoldable pub heading_on : List ℕ → Option NameOn
+heading_on line = option_or (element_on line) (table_on line)
 
 -- the key that a line gives a value: its name stands before `=`
 abbrev pub key_on : List ℕ → Option NameOn

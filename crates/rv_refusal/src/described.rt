@@ -1,7 +1,7 @@
 ghost use Rattle.std.specs.Prelude.{◌≡◌, ◌&&◌, ◌++◌, ◌==◌, IfOk, OnOk, is_none, map, not, option_map};
 ghost use Rattle.std.specs.{List.list_any, Str.bytes_eq};
-ghost use Rattle.rv_refusal.specs.Described.{array_line, description_lines, key_at, key_expected, key_hint};
-ghost use Rattle.rv_refusal.specs.Described.{key_line_text, known_expected, line_of_key, line_of_table};
+ghost use Rattle.rv_refusal.specs.Described.{array_line, description_lines, key_at, key_expected};
+ghost use Rattle.rv_refusal.specs.Described.{key_line_text, known_expected, line_of_key, line_of_name};
 ghost use Rattle.rv_refusal.specs.Described.{table_expected, table_of, unknown_among, unknown_line};
 ghost use Rattle.rv_refusal.specs.Described.{unknown_lines, value_lines};
 ghost use Rattle.rv_refusal.specs.KeyLine.{key_line};
@@ -10,10 +10,10 @@ ghost use Rattle.rv_refusal.specs.NameOn.{table_on};
 use crate::caret::add_marked_line;
 use crate::entry_line::{Sought, first_sought};
 use crate::key_default::add_values_line;
+use crate::key_hint::add_key_hint;
 use crate::key_line::{KeyLine, Wanted, first_named, full_name};
 use crate::key_names::{key_names, keys_named, text_of};
 use crate::name_on::table_on;
-use crate::near::{add_hint, add_names_line};
 use crate::place::add_line_place;
 use crate::text::{add_all, add_text};
 use crate::toml_fault::add_no_toml;
@@ -67,26 +67,27 @@ fn array_line(key: Key, part: &[u8]) -> Option<KeyLine<'_>>
     }
 }
 
-// The first line of a description on which the table of a key stands, or else that as an array of tables.
-#[tactic(auto, unfolding(crate::specs::Described::line_of_table))]
-fn line_of_table(alloc: Global, key: Key, part: &[u8]) -> Result<Option<KeyLine<'_>>, AllocError>
-    ensures { IfOk result (λ found. option_map key_line found ≡ line_of_table key part.entry.now) }
+// The first line of a description on which a key stands, or else its table.
+#[tactic(auto, unfolding(crate::specs::Described::line_of_name))]
+fn line_of_name(alloc: Global, key: Key, part: &[u8]) -> Result<Option<KeyLine<'_>>, AllocError>
+    ensures { IfOk result (λ found. option_map key_line found ≡ line_of_name key part.entry.now) }
 {
-    match first_named(alloc, Wanted::Named(table_of(key)), part) {
-        Ok(None) => Ok(array_line(key, part)),
+    let name = text_of(key);
+    match first_named(alloc, Wanted::Named(name), part) {
+        Ok(None) => first_named(alloc, Wanted::Named(table_of(key)), part),
         found => found,
     }
 }
 
-// The first line of a description on which a key stands, or else its table.
+// The first line of a description on which the table of a key stands as an array of tables, or else the key, or else its
+// table.
 #[tactic(auto, unfolding(crate::specs::Described::line_of_key))]
 fn line_of_key(alloc: Global, key: Key, part: &[u8]) -> Result<Option<KeyLine<'_>>, AllocError>
     ensures { IfOk result (λ found. option_map key_line found ≡ line_of_key key part.entry.now) }
 {
-    let name = text_of(key);
-    match first_named(alloc, Wanted::Named(name), part) {
-        Ok(None) => line_of_table(alloc, key, part),
-        found => found,
+    match array_line(key, part) {
+        Some(found) => Ok(Some(found)),
+        None => line_of_name(alloc, key, part),
     }
 }
 
@@ -156,26 +157,6 @@ fn known_expected() -> &'static [u8]
     ensures { result.now ≡ known_expected }
 {
     b"expected: a key or a table of a description\n"
-}
-
-// Appends the line on an unknown name by the keys that have it in another table, or else by the known names that it may
-// stand for.
-#[tactic(auto, unfolding(crate::specs::Described::key_hint))]
-fn add_key_hint(
-    alloc: Global,
-    out: &mut Vec<u8>,
-    known: &[&[u8]],
-    found: KeyLine<'_>,
-    keys: &[&[u8]],
-) -> Result<(), AllocError>
-    ensures { OnOk result (out.new.items ≡ out.old.items ++ key_hint (map (λ name. name.now) known.now)
-        (key_line found.entry) (map (λ name. name.now) keys.now)) }
-{
-    if keys.is_empty() {
-        let name = full_name(alloc, found)?;
-        return add_hint(alloc, out, name.as_slice(), known);
-    }
-    add_names_line(out, keys)
 }
 
 // Appends a line with an unknown name, what was expected there, and the known names that it may stand for.

@@ -1,13 +1,13 @@
 ghost use Rattle.std.specs.Prelude.{◌≡◌, ◌<◌, ◌≤◌, ◌+◌, ◌^◌, ◌==◌, codes, map, option_map};
 ghost use Rattle.std.specs.{List.slice_split, Str.bytes_eq};
-ghost use Rattle.rv_refusal.specs.EntryLine.{count_after, element_named, element_on, entry_line, entry_on};
+ghost use Rattle.rv_refusal.specs.EntryLine.{count_after, element_named, entry_line, entry_on};
 ghost use Rattle.rv_refusal.specs.EntryLine.{field_names, field_on};
-ghost use Rattle.rv_refusal.specs.EntryLine.{first_from, first_sought, heading_names, heading_on, if_passes};
+ghost use Rattle.rv_refusal.specs.EntryLine.{first_from, first_sought, heading_names, if_passes};
 ghost use Rattle.rv_refusal.specs.EntryLine.{if_unknown, key_names, sought_line, sought_on, unknown_on};
 ghost use Rattle.rv_refusal.specs.HeldName.{name_in};
 
 use crate::key_line::is_among;
-use crate::name_on::{NameOn, begins_with, blanks, key_on, name_after, table_on};
+use crate::name_on::{NameOn, element_on, heading_on, key_on};
 use rv_asm::first_line;
 use rv_job::without_mark;
 
@@ -35,34 +35,6 @@ pub(crate) enum Sought<'a> {
     Unknown,
 }
 
-// The element of an array of tables that a line begins: the array's name stands in two brackets.
-#[tactic(auto, unfolding(crate::specs::EntryLine::element_on))]
-fn element_on(line: &[u8]) -> Option<NameOn<'_>>
-    ensures { option_map name_in result ≡ element_on line.entry.now }
-{
-    let before = blanks(line);
-    let (_, rest) = line.split_at(before);
-    if !begins_with(b'[', rest) {
-        return None;
-    }
-    let (_, others) = line.split_at(before + 1);
-    if !begins_with(b'[', others) {
-        return None;
-    }
-    let (_, inner) = line.split_at(before + 2);
-    name_after(before + 2, b']', inner)
-}
-
-// The name in the brackets of a heading, one before and after it or two.
-fn heading_on(line: &[u8]) -> Option<NameOn<'_>>
-    ensures { option_map name_in result ≡ heading_on line.entry.now }
-{
-    match element_on(line) {
-        Some(on) => Some(on),
-        None => table_on(line),
-    }
-}
-
 // A name on a line, if it is this one.
 fn if_same<'a>(name: &[u8], on: NameOn<'a>) -> Option<NameOn<'a>>
     ensures { option_map name_in result ≡ if_passes (λ other. bytes_eq other name.now) (name_in on.entry) }
@@ -70,8 +42,8 @@ fn if_same<'a>(name: &[u8], on: NameOn<'a>) -> Option<NameOn<'a>>
     if on.name == name { Some(on) } else { None }
 }
 
-// The name of an entry that a line begins.
-fn entry_on(line: &[u8]) -> Option<NameOn<'_>>
+/// The name of an entry that a line begins.
+pub(crate) fn entry_on(line: &[u8]) -> Option<NameOn<'_>>
     ensures { option_map name_in result ≡ entry_on line.entry.now }
 {
     match heading_on(line) {

@@ -3,7 +3,7 @@ ghost use Rattle.std.specs.{List.list_any, List.slice_split, Str.bytes_eq};
 ghost use Rattle.rv_refusal.specs.KeyLine.{first_from, first_named, is_wanted, key_line};
 ghost use Rattle.rv_refusal.specs.KeyLine.{named_line, table_after, wanted_line};
 
-use crate::name_on::{key_on, table_on};
+use crate::name_on::{heading_on, key_on};
 use crate::text::add_all;
 use rv_asm::first_line;
 use rv_job::without_mark;
@@ -62,12 +62,12 @@ pub(crate) fn full_name(alloc: Global, found: KeyLine<'_>) -> Result<Vec<u8>, Al
     Ok(full)
 }
 
-// The line with a number, if a name stands on it: a table's, or a key's in the table that the line stands in.
+// The line with a number, if a name stands on it: a heading's, or a key's in the table that the line stands in.
 #[tactic(auto, unfolding(crate::specs::KeyLine::named_line))]
 fn named_line<'a>(number: usize, table: Option<&'a [u8]>, line: &'a [u8]) -> Option<KeyLine<'a>>
     ensures { option_map key_line result ≡ named_line number (option_copied table.entry) line.entry.now }
 {
-    if let Some(on) = table_on(line) {
+    if let Some(on) = heading_on(line) {
         return Some(KeyLine {
             number,
             line,
@@ -92,7 +92,7 @@ fn named_line<'a>(number: usize, table: Option<&'a [u8]>, line: &'a [u8]) -> Opt
 fn table_after<'a>(table: Option<&'a [u8]>, line: &'a [u8]) -> Option<&'a [u8]>
     ensures { option_copied result ≡ table_after (option_copied table.entry) line.entry.now }
 {
-    match table_on(line) {
+    match heading_on(line) {
         Some(on) => Some(on.name),
         None => table,
     }

@@ -1,7 +1,8 @@
 ghost use Rattle.std.specs.Prelude.{◌≡◌, ◌++◌, IfOk, None, OnOk, map, option_copied};
 ghost use Rattle.rv_isa.specs.Key.{order, text_of};
 ghost use Rattle.rv_describe.specs.Unknown.{same_table};
-ghost use Rattle.rv_refusal.specs.KeyNames.{key_names, keys_named, new_table, tables_from};
+ghost use Rattle.rv_refusal.specs.KeyNames.{key_names, keys_named, names_in, new_table};
+ghost use Rattle.rv_refusal.specs.KeyNames.{stands_in, tables_from};
 
 use crate::names::add_name;
 use rv_isa::{Key, all_keys};
@@ -85,6 +86,43 @@ pub(crate) fn keys_named(alloc: Global, name: &[u8]) -> Result<Vec<&'static [u8]
     for key in all_keys() {
         if name == key.place().name.as_bytes() {
             add_name(&mut names, text_of(*key))?;
+        }
+    }
+    Ok(names)
+}
+
+/// The tables of all keys.
+pub(crate) fn table_names(alloc: Global) -> Result<Vec<&'static [u8]>, AllocError>
+    ensures { IfOk result (λ names. map (λ name. name.now) names.items ≡ tables_from None order) }
+{
+    let mut names = Vec::new(alloc);
+    add_tables(&mut names, all_keys())?;
+    Ok(names)
+}
+
+// Whether a key stands in a table, or in none.
+#[tactic(auto, unfolding(crate::specs::KeyNames::stands_in))]
+fn stands_in(table: Option<&[u8]>, key: Key) -> bool
+    ensures { result ≡ stands_in (option_copied table.entry) key }
+{
+    match (key.place().table, table) {
+        (Some(own), Some(other)) => own.as_bytes() == other,
+        (None, None) => true,
+        _ => false,
+    }
+}
+
+/// Of all keys those in a table, or those in none, by their names there.
+pub(crate) fn names_in(
+    alloc: Global,
+    table: Option<&[u8]>,
+) -> Result<Vec<&'static [u8]>, AllocError>
+    ensures { IfOk result (λ names. map (λ name. name.now) names.items ≡ names_in (option_copied table.entry) order) }
+{
+    let mut names = Vec::new(alloc);
+    for key in all_keys() {
+        if stands_in(table, *key) {
+            add_name(&mut names, key.place().name.as_bytes())?;
         }
     }
     Ok(names)

@@ -15,6 +15,7 @@ mod entry_line;
 mod expected;
 mod further;
 mod key_default;
+mod key_hint;
 mod key_line;
 mod key_names;
 mod lines;

@@ -1,8 +1,8 @@
 ghost use Rattle.std.specs.Prelude.{◌≡◌, ◌≤◌, ◌^◌, length, option_map};
 ghost use Rattle.std.specs.List.{prefix_len};
 ghost use Rattle.rv_refusal.specs.HeldName.{name_in};
-ghost use Rattle.rv_refusal.specs.NameOn.{begins_with, blanks, goes_on_with, is_blank};
-ghost use Rattle.rv_refusal.specs.NameOn.{is_name_byte, key_on, name_after, name_at, table_on};
+ghost use Rattle.rv_refusal.specs.NameOn.{begins_with, blanks, element_on, goes_on_with, heading_on};
+ghost use Rattle.rv_refusal.specs.NameOn.{is_blank, is_name_byte, key_on, name_after, name_at, table_on};
 
 /// A name on a line, and how many bytes stand before it.
 #[derive(Clone, Copy)]
@@ -103,6 +103,35 @@ pub(crate) fn table_on(line: &[u8]) -> Option<NameOn<'_>>
     }
     let (_, inner) = line.split_at(before + 1);
     name_after(before + 1, b']', inner)
+}
+
+/// The element of an array of tables that a line begins: the array's name stands in two brackets.
+#[tactic(auto, unfolding(crate::specs::NameOn::element_on))]
+pub(crate) fn element_on(line: &[u8]) -> Option<NameOn<'_>>
+    ensures { option_map name_in result ≡ element_on line.entry.now }
+{
+    let before = blanks(line);
+    let (_, rest) = line.split_at(before);
+    if !begins_with(b'[', rest) {
+        return None;
+    }
+    let (_, others) = line.split_at(before + 1);
+    if !begins_with(b'[', others) {
+        return None;
+    }
+    let (_, inner) = line.split_at(before + 2);
+    name_after(before + 2, b']', inner)
+}
+
+/// The name in the brackets of a heading, one before and after it or two.
+#[tactic(auto, unfolding(crate::specs::NameOn::heading_on))]
+pub(crate) fn heading_on(line: &[u8]) -> Option<NameOn<'_>>
+    ensures { option_map name_in result ≡ heading_on line.entry.now }
+{
+    match element_on(line) {
+        Some(on) => Some(on),
+        None => table_on(line),
+    }
 }
 
 /// The key that a line gives a value: its name stands before `=`.

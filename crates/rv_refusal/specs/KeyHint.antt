@@ -1,0 +1,56 @@
+-- What is said of a name that a description does not know where it stands.
+use Rattle.std.specs.Prelude.{ℕ, List, [], ◌∷◌, ◌++◌, codes, if◌then◌else◌, Option, Some, None}
+use Rattle.std.specs.{List.flat_map, List.list_any, Option.option_map_or, Str.bytes_eq}
+use Rattle.rv_isa.specs.Key.{order}
+use Rattle.rv_refusal.specs.KeyLine.{KeyLine}
+use Rattle.rv_refusal.specs.KeyNames.{names_in, tables_from}
+use Rattle.rv_refusal.specs.Near.{hint_line, names_line}
+
+-- names, each with a comma and a blank after it
+abbrev pub each_name : List (List ℕ) → List ℕ
+each_name names = flat_map (λ name. name ++ codes ", ") names
+
+-- the line with all names of a kind, if there are any
+unfoldable pub all_names : List ℕ → List ℕ → List (List ℕ) → List ℕ
+all_names kind table [] = []
+all_names kind table (name ∷ names) =
+    codes "hint: the "
+    ++ (kind ++ (table ++ (codes " are " ++ (each_name (name ∷ names) ++ codes "and no others\n"))))
+
+-- the lines with all names that may stand there: the keys of a table, or those of no table and the tables
+unfoldable pub place_names : Option (List ℕ) → List ℕ
+place_names None =
+    all_names (codes "keys of ") (codes "no table") (names_in None order)
+    ++ all_names (codes "tables") [] (tables_from None order)
+place_names (Some table) = all_names (codes "keys of ") table (names_in (Some table) order)
+
+-- a line, or else those with all names that may stand there
+unfoldable pub or_place_names : Option (List ℕ) → List ℕ → List ℕ
+or_place_names table [] = place_names table
+or_place_names table (byte ∷ bytes) = byte ∷ bytes
+
+-- which key a name is in the table that it stands in
+unfoldable pub here_line : KeyLine → List ℕ
+here_line found =
+    option_map_or (λ table. codes "hint: here it is " ++ (table ++ (codes "." ++ (found.key ++ codes "\n")))) found.table []
+
+-- the lines on an unknown name by the keys that have it in another table, or else by the known names that it may stand for
+unfoldable pub table_hint : List (List ℕ) → KeyLine → List (List ℕ) → List ℕ
+table_hint known found [] = or_place_names found.table (hint_line found.name known)
+table_hint known found (key ∷ keys) = here_line found ++ names_line (key ∷ keys)
+
+-- which key a name is that stands in a table, and is known in none
+unfoldable pub outside_line : List ℕ → List ℕ
+outside_line name =
+    codes "hint: here it is " ++ (name ++ codes "; the keys of no table stand above the first [table]\n")
+
+-- that arrivals stand in no description
+unfoldable pub arrivals_line : List ℕ
+arrivals_line = codes "hint: arrivals are the second of three parts; is a line %% missing before them?\n"
+
+-- the lines on an unknown name: of arrivals, or one that is known where no table stands above it, or another
+unfoldable pub key_hint : List (List ℕ) → KeyLine → List (List ℕ) → List ℕ
+key_hint known found keys =
+    if bytes_eq found.key (codes "arrival") then arrivals_line
+    else (if list_any (bytes_eq found.key) known then outside_line found.name
+    else table_hint known found keys)
