@@ -16,7 +16,7 @@ use Rattle.rv_refusal.specs.Names.{symbols_at}
 use Rattle.rv_refusal.specs.NameSet.{is_one_of}
 use Rattle.rv_refusal.specs.Near.{nearest_line}
 use Rattle.rv_refusal.specs.Place.{place_line, shown_line}
-use Rattle.rv_refusal.specs.Separator.{separator_question}
+use Rattle.rv_refusal.specs.Separator.{later_hint, separator_question}
 use Rattle.rv_refusal.specs.Statement.{tokens_on}
 use Rattle.rv_refusal.specs.Unfit.{unfit_lines}
 
@@ -40,7 +40,7 @@ assembly_text before assembly error =
     ++ (nearest_line error.fault (is_one_of symbols) symbols tokens
     ++ (advice before error.fault (is_one_of symbols) line tokens ++ further_lines before error.line assembly))
 
--- why a job is refused
+-- why a job is refused; of assembly also which line is no separator for what stands beside its two bytes
 unfoldable pub refusal_text : List ℕ → SimError → List ℕ
 refusal_text text TooLong = codes "expected: at most 33554432 bytes\n"
 refusal_text text (Description error) = description_lines (parts_of text).description error
@@ -48,5 +48,6 @@ refusal_text text (Arrivals error) = arrivals_lines (parts_of text) error
 refusal_text text (Assembly error) =
     let assembly = (parts_of text).assembly in
     assembly_text (lines_before text assembly) assembly error
+    ++ later_hint (lines_before text assembly) error.line assembly
 refusal_text text (ImageDoesNotFit bytes ram) = unfit_lines bytes ram
 refusal_text text _ = []

@@ -1,17 +1,36 @@
 ghost use Rattle.std.specs.Prelude.{◌≡◌, ◌++◌, IfOk, OnOk};
-ghost use Rattle.rv_refusal.specs.Refusal.{refusal_text};
+ghost use Rattle.rv_refusal.specs.Refusal.{assembly_text, refusal_text};
+ghost use Rattle.rv_refusal.specs.Separator.{later_hint};
 ghost use Rattle.rv_text.specs.IsText.{IsText};
 
 use crate::arrivals::add_arrivals;
 use crate::assembly::add_assembly;
 use crate::described::add_description;
 use crate::lines::lines_before;
+use crate::separator::add_later_hint;
 use crate::text::add_text;
 use crate::unfit::add_unfit;
+use rv_asm::AsmError;
 use rv_job::{SimError, cut_into_parts};
 use rv_text::{ReportError, TextError, put};
 use std::alloc::{AllocError, Global};
 use std::io::Write;
+
+// Appends the fault of an assembly that so many lines of the job stand before, and which of its lines is no separator for
+// what stands beside its two bytes.
+fn add_assembly_lines(
+    alloc: Global,
+    out: &mut Vec<u8>,
+    before: usize,
+    assembly: &[u8],
+    error: AsmError,
+) -> Result<(), AllocError>
+    ensures { OnOk result (out.new.items ≡ out.old.items
+        ++ (assembly_text before assembly.now error ++ later_hint before error.line assembly.now)) }
+{
+    add_assembly(alloc, out, before, assembly, error)?;
+    add_later_hint(out, before, error.line, assembly)
+}
 
 // Appends why a job is refused.
 #[tactic(auto, unfolding(crate::specs::Refusal::refusal_text))]
@@ -31,7 +50,7 @@ fn add_refusal(
         SimError::Arrivals(error) => add_arrivals(alloc, out, cut_into_parts(text), error),
         SimError::Assembly(error) => {
             let assembly = cut_into_parts(text).assembly;
-            add_assembly(alloc, out, lines_before(text, assembly), assembly, error)
+            add_assembly_lines(alloc, out, lines_before(text, assembly), assembly, error)
         }
         SimError::ImageDoesNotFit { bytes, ram } => add_unfit(out, bytes, ram),
         _ => Ok(()),

@@ -5,6 +5,7 @@ use crate::caret::add_marked_line;
 use crate::lines::{line_at, line_feeds};
 use crate::name_on::blanks;
 use crate::place::add_line_place;
+use crate::separator::add_separator_hint;
 use crate::text::{add_all, add_text};
 use rv_describe::is_toml;
 use std::alloc::{AllocError, Global};
@@ -76,7 +77,7 @@ fn add_toml_expected(
     )
 }
 
-// Appends the line of a part of the job with which it ceases to be TOML.
+// Appends the line of a part of the job with which it ceases to be TOML, and whether it was to be a separator.
 #[tactic(auto, unfolding(crate::specs::TomlFault::toml_lines))]
 fn add_toml_lines(
     alloc: Global,
@@ -93,7 +94,8 @@ fn add_toml_lines(
     add_line_place(out, name, before, number)?;
     add_text(out, b"\n")?;
     add_marked_line(out, line, blanks(line))?;
-    add_toml_expected(alloc, out, example, line)
+    add_toml_expected(alloc, out, example, line)?;
+    add_separator_hint(out, line)
 }
 
 /// Appends why a part of the job is no TOML, which has this name and so many lines before it: the line with which it
