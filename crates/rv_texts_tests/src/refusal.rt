@@ -4,6 +4,7 @@ mod expected;
 mod first_lines;
 mod hints;
 mod lines;
+mod misplaced;
 mod parts;
 
 use crate::checks::check_bytes;

@@ -78,7 +78,7 @@ expected: level is 0 or 1, by default 1
 ];
 
 // Lists of arrivals that are refused by a field that is missing or stands on no line of its own, or by the list itself.
-static MISSING: [Refused; 7] = [
+static MISSING: [Refused; 8] = [
     Refused {
         job: b"%%\n[[arrival]]\ncycle = 1\nline = \"timer\"\n [[ arrival ]] # the second\nline = \"timer\"\n%%\nebreak\n",
         why: b"\
@@ -136,6 +136,16 @@ line 3 of the job, line 2 of its arrivals
     cycle 5
     ^
 expected: TOML, as in '[[arrival]]': a value for each key, strings in quotes, brackets closed, whole numbers up to 9223372036854775807
+",
+    },
+    Refused {
+        job: b"rob = 8\n%%\n[[arrival]]\ncycle = 5\nline = \"timer\"\n%%%\nnop\n%%\nebreak\n",
+        why: b"\
+line 6 of the job, line 4 of its arrivals
+    %%%
+    ^
+expected: TOML, as in '[[arrival]]': a value for each key, strings in quotes, brackets closed, whole numbers up to 9223372036854775807
+hint: a line %% has nothing but these two bytes
 ",
     },
 ];

@@ -164,6 +164,8 @@ line 1 of the job, line 1 of its description
     l2-cache = 1
     ^
 expected: a key or a table of a description
+hint: the keys of no table are ram_base, ram_size, rom_bytes, fetch_width, dispatch_width, commit_width, bus_width, fetch_buffer, rob, store_queue, forward, recovery, and no others
+hint: the tables are alu, mul, div, mem, cache, predictor, report, and no others
 ",
     },
     Refused {
@@ -207,6 +209,7 @@ line 2 of the job, line 2 of its description
     latency = 4
     ^
 expected: a key or a table of a description
+hint: here it is cache.latency
 nearest: alu.latency, mul.latency, div.latency, mem.latency
 ",
     },
@@ -217,7 +220,7 @@ line 3 of the job, line 3 of its description
     rob = 8
     ^
 expected: a key or a table of a description
-nearest: rob
+hint: here it is cache.rob; the keys of no table stand above the first [table]
 ",
     },
     Refused {
@@ -233,7 +236,7 @@ names are written in small letters: rob
 ];
 
 // Texts that are no TOML.
-static NO_TOML: [Refused; 7] = [
+static NO_TOML: [Refused; 10] = [
     Refused {
         job: b"rob 8\n%%\n",
         why: b"\
@@ -293,6 +296,35 @@ expected: TOML, as in 'rob = 8': a value for each key, strings in quotes, bracke
         why: b"\
 line 2 of the job, line 2 of its description
     # ?
+    ^
+expected: TOML, as in 'rob = 8': a value for each key, strings in quotes, brackets closed, whole numbers up to 9223372036854775807
+",
+    },
+    Refused {
+        job: b"rob = 8\n%% # arrivals\n[[arrival]]\ncycle = 5\nline = \"timer\"\n%%\nebreak\n",
+        why: b"\
+line 2 of the job, line 2 of its description
+    %% # arrivals
+    ^
+expected: TOML, as in 'rob = 8': a value for each key, strings in quotes, brackets closed, whole numbers up to 9223372036854775807
+hint: a line %% has nothing but these two bytes
+",
+    },
+    Refused {
+        job: b"rob = 8\n\t%%\nebreak\n%%\nebreak\n",
+        why: b"\
+line 2 of the job, line 2 of its description
+     %%
+     ^
+expected: TOML, as in 'rob = 8': a value for each key, strings in quotes, brackets closed, whole numbers up to 9223372036854775807
+hint: a line %% has nothing but these two bytes
+",
+    },
+    Refused {
+        job: b"% a machine\nrob = 8\n%%\nebreak\n",
+        why: b"\
+line 1 of the job, line 1 of its description
+    % a machine
     ^
 expected: TOML, as in 'rob = 8': a value for each key, strings in quotes, brackets closed, whole numbers up to 9223372036854775807
 ",
