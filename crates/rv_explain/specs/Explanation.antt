@@ -16,8 +16,8 @@ use Rattle.rv_source.specs.Listing.{Listed}
 use Rattle.rv_text.specs.Line.{line_of, ratio_text}
 use Rattle.rv_sentences.specs.Dispatch.{dispatches_text}
 use Rattle.rv_sentences.specs.Drain.{drain_text}
-use Rattle.rv_explain.specs.Crash.{crash_text, first_way_text, lone_crash}
-use Rattle.rv_explain.specs.Ending.{ending_text}
+use Rattle.rv_explain.specs.Crash.{crash_of, crash_text, first_way_text, lone_crash, whole_end_text}
+use Rattle.rv_explain.specs.Ending.{ending_text, stuck_text}
 use Rattle.rv_sentences.specs.Exception.{exceptions_text}
 use Rattle.rv_hardware.specs.History.{Moment, reports_of}
 use Rattle.rv_sentences.specs.Hotspot.{hotspots_text}
@@ -99,19 +99,23 @@ cost_text listing run =
     (stays_text run.tally.stays ++ (load_text run.tally.loads ++ (drain_text run.tally.drains ++
     hotspots_text listing run.progress.cycles run.tally.idle run.tally.heads run.tally.outcomes run.tally.stores))))))
 
--- how a run ended, its exceptions, interrupts and lines never taken, what leads to its cause, and where its cycles went
+-- how a run ended, its exceptions, where a program ends, interrupts and lines never taken, what leads to its cause, and
+-- where its cycles went
 unfoldable pub whole_text : Listed → Hardware → Tallied → List ℕ
 whole_text listing h run =
     ending_text listing run.stop h run.tally.last_stores ++
-    (first_way_text listing run.tally.exceptions.all run.tally.last_before ++
+    (stuck_text run.stop h run.tally.exceptions.all run.tally.last_before ++
+    (first_way_text listing h run.tally.exceptions.all run.tally.last_before ++
     (exceptions_text listing run.tally.exceptions.all run.tally.exceptions.kinds ++
+    (whole_end_text listing (crash_of run.stop run.tally.exceptions.all) run.tally.last_before ++
     (interrupts_text listing run.tally.interrupts ++ (untaken_lines h run.tally ++
-    (lead_text listing h run ++ cost_text listing run)))))
+    (lead_text listing h run ++ cost_text listing run)))))))
 
 -- the sentences on a run, or on the crash that stands alone
 unfoldable pub run_text : Option Exception → Listed → Hardware → Tallied → List ℕ
 run_text None listing h run = whole_text listing h run
-run_text (Some crash) listing h run = crash_text listing crash run.tally.last_before run.tally.interrupts
+run_text (Some crash) listing h run =
+    crash_text listing h crash run.tally.last_before run.tally.interrupts
 
 -- the sentences on a path, where one is shown
 unfoldable pub path_text : Listed → Option Accounted → List ℕ

@@ -1,11 +1,14 @@
 ghost use Rattle.std.specs.Prelude.{◌≡◌};
 ghost use Rattle.rv_arch.specs.Csr.{value_of};
 ghost use Rattle.rv_explain.specs.Ending.{reason_text, place_of, last_store_text, stale_text, ending_text};
+ghost use Rattle.rv_explain.specs.Ending.{goes_to_itself, is_cut_off, is_stuck, stuck_text};
 ghost use Rattle.rv_text.specs.Said.{Says};
 
+use crate::last_before::is_return;
+use crate::origin::Origin;
 use rv_arch::Stop;
 use rv_isa::Csr;
-use rv_sentences::WordNotes;
+use rv_sentences::{Exception, Series, WordNotes};
 use rv_source::{Listing, write_place};
 use rv_text::Sink;
 use rv_watch::ShownHardware;
@@ -83,4 +86,52 @@ pub(crate) fn write_ending<W: Write>(
     out.put(reason(stop));
     write_place(out, listing, place(stop, hardware));
     write_stale(out, listing, stop, last_stores);
+}
+
+fn is_cut_off(stop: Stop) -> bool
+    ensures { result ≡ is_cut_off stop }
+{
+    match stop {
+        Stop::Breakpoint | Stop::Stale(_) => false,
+        Stop::Limit | Stop::Exhausted => true,
+    }
+}
+
+// Whether an instruction is a return, after which a program goes on at it again.
+fn goes_to_itself(pc: u32, origin: Option<Origin>) -> bool
+    ensures { result ≡ goes_to_itself pc origin }
+{
+    match origin {
+        Some(origin) => is_return(origin) && origin.pc == pc,
+        None => false,
+    }
+}
+
+// Whether a run was cut off in a return that goes to itself.
+fn is_stuck(
+    stop: Stop,
+    hardware: &ShownHardware<'_>,
+    all: Option<Series<Exception>>,
+    last: Option<Origin>,
+) -> bool
+    ensures { result ≡ is_stuck stop hardware.now all last }
+{
+    is_cut_off(stop) && all.is_none() && goes_to_itself(hardware.observe().pc, last)
+}
+
+/// Writes why a return goes to itself, if a run was cut off in one: by its exceptions and the last instruction before
+/// the first of them.
+#[tactic(auto, using(rv_text::proofs::Saying::saying), unfolding(crate::specs::Ending::stuck_text))]
+pub(crate) fn write_stuck<W: Write>(
+    out: &mut Sink<'_, W>,
+    stop: Stop,
+    hardware: &ShownHardware<'_>,
+    all: Option<Series<Exception>>,
+    last: Option<Origin>,
+)
+    ensures { Says W.contents out.old out.new (stuck_text stop hardware.now all last) }
+{
+    if is_stuck(stop, hardware, all, last) {
+        out.put(b"This return goes to itself: ra was overwritten by a call and not restored\n");
+    }
 }

@@ -10,9 +10,9 @@ ghost use Rattle.rv_text.specs.IsText.{IsText};
 ghost use Rattle.rv_text.specs.Said.{Says};
 ghost use Rattle.rv_text.specs.Written.{IsWritten};
 
-use crate::crash::{lone_crash, write_crash, write_first_way};
+use crate::crash::{lone_crash, write_crash, write_first_way, write_whole_end};
 use crate::cycle_places::in_flight;
-use crate::ending::{csr, write_ending};
+use crate::ending::{csr, write_ending, write_stuck};
 use crate::figures::Figures;
 use crate::running::{Tallied, run_tallied};
 use crate::tally::Tally;
@@ -147,9 +147,13 @@ fn write_whole<W: Write>(
     ensures { Says W.contents out.old out.new (whole_text listing.now hardware.now run.now) }
 {
     let tally = &run.tally;
+    let last = tally.last_before;
+    let exceptions = tally.exceptions.all();
     write_ending(out, listing, run.stop, hardware, &tally.last_stores);
-    write_first_way(out, listing, tally.exceptions.all(), tally.last_before);
+    write_stuck(out, run.stop, hardware, exceptions, last);
+    write_first_way(out, listing, hardware, exceptions, last);
     write_exceptions(out, listing, &tally.exceptions);
+    write_whole_end(out, listing, run.stop, exceptions, last);
     write_interrupts(out, listing, &tally.interrupts);
     write_untaken_lines(out, hardware, tally);
     write_lead(out, listing, hardware, run);
@@ -182,6 +186,7 @@ fn write_run<W: Write>(
         Some(crash) => write_crash(
             out,
             listing,
+            hardware,
             &crash,
             run.tally.last_before,
             &run.tally.interrupts,
@@ -229,17 +234,18 @@ fn write_run_text<W: Write>(
 
 /// Runs a pipeline that a predictor guides, each cycle with the lines of its number, up to a breakpoint, a stale word,
 /// exhaustion or so many cycles, and then writes what the run came to, in plain sentences: where a path is shown, its greatest
-/// causes with their lines; how it ended, where and why, and for a stale word the last store to it; how it came to its first
-/// exception, past its last line or out of RAM; its exceptions and interrupts, and the interrupt lines that are high and were
-/// never taken; what instructions in flight waited for most, and what became of most places for dispatch; the line that was
-/// awaited most, and the one that stood longest at the head of the reorder buffer; what became of all places; where the cycles
-/// went; how many dispatched only what did not retire; how many words were fetched and how many of them squashed; how many
-/// branches and jumps retired, and how many of them were mispredicted, with the three lines that most of those come from; why
-/// instructions stayed in flight; what its loads and the drains of its stores cost; and the five lines that most cycles left at
-/// the head of the reorder buffer, or that had flushed it, with their loads and stores. Where the program crashed, its first
-/// exception, how it came there and the interrupts alone are explained, unless the figures are asked for. The description says
-/// where RAM lies, whose words are counted, and what loads and drains cost. The listing is that of the program, whose lines are
-/// shown. Answers why the run ended.
+/// causes with their lines; how it ended, where and why, for a stale word the last store to it, and of a return that goes to
+/// itself why it does; how it came to its first exception, as an empty program, past its last line or out of RAM; its
+/// exceptions, where a program ends if it crashed where it may have been meant to end, its interrupts, and the interrupt lines
+/// that are high and were never taken; what instructions in flight waited for most, and what became of most places for
+/// dispatch; the line that was awaited most, and the one that stood longest at the head of the reorder buffer; what became of
+/// all places; where the cycles went; how many dispatched only what did not retire; how many words were fetched and how many of
+/// them squashed; how many branches and jumps retired, and how many of them were mispredicted, with the three lines that most
+/// of those come from; why instructions stayed in flight; what its loads and the drains of its stores cost; and the five lines
+/// that most cycles left at the head of the reorder buffer, or that had flushed it, with their loads and stores. Where the
+/// program crashed, its first exception, how it came there, where a program ends and the interrupts alone are explained, unless
+/// the figures are asked for. The description says where RAM lies, whose words are counted, and what loads and drains cost. The
+/// listing is that of the program, whose lines are shown. Answers why the run ended.
 ///
 /// # Errors
 ///

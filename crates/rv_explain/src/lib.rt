@@ -13,6 +13,7 @@ mod figures;
 mod head;
 mod high_lines;
 mod last_before;
+mod origin;
 mod running;
 mod tally;
 mod traps;

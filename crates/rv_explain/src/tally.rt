@@ -7,6 +7,7 @@ use crate::at_end::{left_among, without_waiting};
 use crate::head::accounts_of;
 use crate::high_lines::follow_lines;
 use crate::last_before::last_before_with;
+use crate::origin::Origin;
 use crate::traps::note_steps;
 use rv_counts::{CyclePlaces, LoadCosts, Places};
 use rv_hardware::Step;
@@ -25,8 +26,8 @@ use std::alloc::{AllocError, Global};
 pub(crate) struct Tally {
     pub(crate) retired: u64,
     pub(crate) exceptions: Exceptions,
-    /// The address of the last instruction that retired before the first exception, if no interrupt came between.
-    pub(crate) last_before: Option<u32>,
+    /// The last instruction that retired before the first exception, if no interrupt came between.
+    pub(crate) last_before: Option<Origin>,
     pub(crate) interrupts: Interrupts,
     /// Since when each interrupt line is high.
     pub(crate) raised: Raised,

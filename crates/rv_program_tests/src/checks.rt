@@ -53,6 +53,20 @@ pub(crate) fn check_full(
     assert!(rt; whole.starts_with(output.taken.as_slice()));
 }
 
+/// Checks that a run of the program ends with status 0, and that its report has not some line.
+pub(crate) fn check_without(
+    rt: &impl Abort,
+    alloc: Global,
+    command: Command,
+    text: &str,
+    line: &'static str,
+) {
+    let ended = run_text(alloc, command, text.as_bytes());
+    let missing = missing(ended.output.as_slice(), &[line]);
+    let found = (ended.status, missing);
+    assert_eq!(rt; found, (0, Some(line)), "{text}");
+}
+
 /// Checks that a run of the program ends with a status, that its report has some lines, and that it reports no fault.
 pub(crate) fn check_run(
     rt: &impl Abort,

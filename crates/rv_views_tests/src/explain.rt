@@ -20,6 +20,7 @@ No handler was set (the address in mtvec was 0), and the program went on at 0000
 Exceptions by cause and place:
       1 in cycle 4: Environment call from M-mode, at 80000004, line 2: ecall
       7 in cycles 6 to 18: Instruction access fault, at 00000000, which no line of the program fills
+A program ends at ebreak
 cycles of instructions in flight: 6, of them 4 waiting for retirement (66.7%)
 places for dispatch: 40, of them 1 retired (2.5%), 26 lost: fetch gave no word (65.0%), 8 trapped (20.0%), 4 squashed by traps (10.0%)
 Longest at the head of the reorder buffer, or had flushed it, for 3 of 20 cycles: 80000000, line 1: addi x1,x0,5

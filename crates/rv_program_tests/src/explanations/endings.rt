@@ -1,4 +1,4 @@
-use crate::checks::check_run;
+use crate::checks::{check_run, check_without};
 use crate::explanations::{EXPLAIN, Explained, check_explained};
 use crate::programs::STORE_INTO_CODE;
 use rv_command::Command;
@@ -62,4 +62,41 @@ fn the_last_store_to_the_stale_word_is_named(rt: HostRuntime) {
         },
     ];
     check_explained(&rt, rt.alloc(), &ROWS, 3);
+}
+
+const TO_ITSELF: &str = "This return goes to itself: ra was overwritten by a call and not restored";
+
+// The call leaves in ra the address of the return after it.
+#[test]
+fn a_return_that_goes_to_itself_is_explained_so(rt: HostRuntime) {
+    static LINES: [&str; 2] = [
+        "The run was cut off at its limit of cycles, and the program stood at 80000004, line 2: ret",
+        TO_ITSELF,
+    ];
+    let program = "call f\nret\nf: ret\n";
+    check_run(&rt, rt.alloc(), EXPLAIN, program, 0, &LINES);
+}
+
+// A jump to itself; returns that go on elsewhere; a return to a call that its handler leads back from; and one that
+// goes to a breakpoint, whose handler it is.
+const OTHERS: [&str; 4] = [
+    "l: j l",
+    "l: call f\nj l\nf: ret",
+    "la x5,h\ncsrw mtvec,x5\nla ra,e\nl: ret\ne: ecall\nh: j l",
+    "la x5,l\ncsrw mtvec,x5\nla ra,e\nl: ret\ne: ebreak",
+];
+
+// Some of these limits cut a run off right after a return.
+#[test]
+fn no_other_end_is_one_in_a_return_that_goes_to_itself(rt: HostRuntime) {
+    for limit in 20..36 {
+        let command = Command::Explain {
+            figures: true,
+            path: false,
+            limit,
+        };
+        for program in OTHERS {
+            check_without(&rt, rt.alloc(), command, program, TO_ITSELF);
+        }
+    }
 }

@@ -6,6 +6,7 @@ use Rattle.rv_explain.proofs.crash.write_way.Goals as goal
 pub returns : goal.returns
 unfolding way_text
 returns g c =
-    says_both c.write_passed.ensures
+    says_both c.write_empty.ensures
+    (says_both c.write_passed.ensures
     (says_same (ap (departure_text c.args.listing.now c.args.exception.now.pc) c.departure.ensures)
-    c.write_departure.ensures)
+    c.write_departure.ensures))
