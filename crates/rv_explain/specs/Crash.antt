@@ -95,7 +95,7 @@ is_uncalled e last = e.pc == 0 && is_some_return (departure e.cause last)
 
 -- a program crashed where it may have been meant to end: at an environment call, right after its last line, or by a
 -- return where nobody had called
-abbrev pub is_meant_end : Listed → Exception → Option Origin → Bool
+unfoldable pub is_meant_end : Listed → Exception → Option Origin → Bool
 is_meant_end listing crash last =
     is_environment_call crash.cause || (is_past_code listing crash.pc || is_uncalled crash last)
 

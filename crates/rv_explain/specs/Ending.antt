@@ -60,7 +60,7 @@ goes_to_itself pc (Some origin) = is_return origin && origin.pc == pc
 
 -- a run was cut off in a return that goes to itself: no exception came, and so the last instruction before one is the
 -- last that retired
-abbrev pub is_stuck : Stop → Hardware → Option (Series Exception) → Option Origin → Bool
+unfoldable pub is_stuck : Stop → Hardware → Option (Series Exception) → Option Origin → Bool
 is_stuck stop h all last = is_cut_off stop && (is_none all && goes_to_itself h.pc last)
 
 -- why it does, if it does: a call leaves in ra the address of the instruction after it (Unprivileged ISA 20191213, 2.5)

@@ -171,6 +171,7 @@ fn is_uncalled(exception: &Exception, last: Option<Origin>) -> bool
 }
 
 // Whether a program crashed where it may have been meant to end.
+#[tactic(auto, unfolding(crate::specs::Crash::is_meant_end))]
 fn is_meant_end(listing: &Listing, crash: &Exception, last: Option<Origin>) -> bool
     ensures { result ≡ is_meant_end listing.now crash.now last }
 {

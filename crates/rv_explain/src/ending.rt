@@ -108,6 +108,7 @@ fn goes_to_itself(pc: u32, origin: Option<Origin>) -> bool
 }
 
 // Whether a run was cut off in a return that goes to itself.
+#[tactic(auto, unfolding(crate::specs::Ending::is_stuck))]
 fn is_stuck(
     stop: Stop,
     hardware: &ShownHardware<'_>,
