@@ -1,6 +1,6 @@
 // The address holds the job, as long as it is not too long for that: so a link shares it, and going back or loading again loses nothing. One
 // that is too long stands in the state of its place in the browser's history, to which going back leads as well.
-// After #: example=NAME or job=DEFLATED, machines=DEFLATED, view, limit, from, cycles of a view, retired, cycle, follow and path.
+// After #: example=NAME or job=DEFLATED, machines=DEFLATED, view, limit, from, cycles of a view, its switches, cycle, follow and path.
 let exampleName = "", addressed = "", isAnother = false, isWritten = true;
 
 // Another job takes the place of the one that stands here, which is then one step back: also where the address has it not, or not yet.

@@ -58,6 +58,18 @@ function cycleBar(counts) {
   return bar;
 }
 
+// The names of x0 to x31 in the calling convention.
+const ABI = "zero ra sp gp tp t0 t1 t2 s0 s1 a0 a1 a2 a3 a4 a5 a6 a7 s2 s3 s4 s5 s6 s7 s8 s9 s10 s11 t3 t4 t5 t6".split(" ");
+
+// The state, with the other name of each register beside its line. That is drawn, and no part of the text.
+function stateOf(text) {
+  const lines = text.split("\n").map((line) => {
+    const number = (/^x(\d+) /.exec(line) || [])[1];
+    return element("span", { textContent: line, ...(number ? { "data-abi": ABI[number] } : {}) });
+  });
+  return element("pre", { className: "state" }, ...lines.flatMap((line, at) => (at === 0 ? [line] : ["\n", line])));
+}
+
 // The counts first, and the registers and memory in columns.
 function showReport({ output }) {
   const text = textOf(output), at = text.search(/^pc /m), end = text.search(/^m [0-9a-f]{8} /m);
@@ -65,7 +77,7 @@ function showReport({ output }) {
   const state = text.slice(at, end < 0 ? undefined : end);
   byId("shown").append(
     element("h3", { textContent: "Where the cycles went" }), cycleBar(countsOf(text)),
-    element("div", { className: "report" }, element("pre", { textContent: text.slice(0, at) }), element("pre", { className: "state", textContent: state })));
+    element("div", { className: "report" }, element("pre", { textContent: text.slice(0, at) }), stateOf(state)));
   if (end >= 0) byId("shown").append(element("h3", { textContent: "Memory" }), element("pre", { className: "state", textContent: text.slice(end) }));
 }
 

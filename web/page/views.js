@@ -3,6 +3,9 @@ const FROM = { name: "from", label: "from cycle", least: 0, most: 999999, value:
 const cycles = (most, value) => ({ name: "cycles", label: "cycles", least: 1, most, value });
 const RETIRED = { name: "retired", label: "without squashed rows", isSwitch: true, value: false };
 const TEXT = { name: "text", label: "as text", isSwitch: true, value: false };
+const FIGURES = { name: "figures", label: "figures after a crash too", isSwitch: true, value: false };
+// (in the address path is the viewer's)
+const PATH = { name: "path", key: "critical", label: "critical path", isSwitch: true, value: false };
 
 const KONATA = "For the pipeline viewer Konata: save it, and open the file there.";
 const ONE_AT_A_TIME = "The same program on the machine that takes one instruction after the other; limit and arrivals count steps.";
@@ -14,11 +17,11 @@ const TRACE = "R retired, T trap, N interrupt; F, D, I, B, C: the cycles of fetc
 const VIEWS = [
   { name: "report", title: "Report", command: "run", limit: true, show: showReport, file: "report.txt" },
   { name: "steps", title: "Steps", command: "page", options: [FROM, cycles(10000, 200)], show: showPage, file: "run.html" },
-  { name: "picture", title: "Picture", command: "picture", options: [FROM, cycles(1000, 60), RETIRED, TEXT], show: showPicture, file: "picture.svg" },
+  { name: "picture", title: "Picture", command: "picture", options: [FROM, cycles(1000, 60), RETIRED, TEXT, PATH], show: showPicture, file: "picture.svg" },
   { name: "change", title: "Before and after", command: "run", limit: true, show: showChange, file: "report.txt" },
   { name: "compare", title: "Compare", command: "compare", limit: true, input: comparedInput, refused: refusedMachine, show: showComparison, file: "compare.tsv" },
-  { name: "explain", title: "Explain", command: "explain", limit: true, show: showSentences, file: "explain.txt" },
-  { name: "profile", title: "Profile", command: "profile", limit: true, show: showTable, file: "profile.tsv" },
+  { name: "explain", title: "Explain", command: "explain", options: [FIGURES, PATH], limit: true, show: showSentences, file: "explain.txt" },
+  { name: "profile", title: "Profile", command: "profile", options: [PATH], limit: true, show: showTable, file: "profile.tsv" },
   { name: "path", title: "Path", command: "path", limit: true, show: showSentences, file: "path.txt", note: CRITICAL, also: IN_PICTURE },
   { name: "sensitivity", title: "What would help", command: "sensitivity", limit: true, show: showTable, file: "sensitivity.tsv", note: NEIGHBOURS },
   { name: "trace", title: "Trace", command: "run", words: ["--trace"], limit: true, show: showText, file: "trace.txt", note: TRACE },
@@ -27,11 +30,11 @@ const VIEWS = [
 ];
 const viewNamed = (name) => VIEWS.find((view) => view.name === name);
 
-// The chosen options of the views, by name: those of the same name are shared.
+// The chosen options of the views, by key: those of the same key are shared.
 const chosen = {};
 
 function optionOf(view, option) {
-  const key = option.name === "cycles" ? view.name + "-cycles" : option.name;
+  const key = option.name === "cycles" ? view.name + "-cycles" : option.key || option.name;
   return { key, value: key in chosen ? chosen[key] : option.value };
 }
 
