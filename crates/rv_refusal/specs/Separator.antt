@@ -44,13 +44,16 @@ abbrev pub first_spoiled : ℕ → List (List ℕ) → Option ℕ
 first_spoiled number [] = None
 first_spoiled number (line ∷ others) = if spoils_separator line then Some number else first_spoiled (number + 1) others
 
+-- what stands before the place of a line that is no separator
+unfoldable pub spoiled_text : List ℕ
+spoiled_text = codes "hint: a line %% has nothing but these two bytes: see "
+
 -- what is said of such a line, by its number in an assembly that so many lines of the job stand before, unless it is the
 -- one at fault
 unfoldable pub spoiled_line : ℕ → ℕ → ℕ → List ℕ
 spoiled_line before number other =
     if other == number then []
-    else codes "hint: a line %% has nothing but these two bytes: see "
-    ++ (line_place (codes "assembly") before other ++ codes "\n")
+    else spoiled_text ++ (line_place (codes "assembly") before other ++ codes "\n")
 
 -- what is said of the first such line of an assembly that so many lines of the job stand before, where the line with a
 -- number is at fault

@@ -2,7 +2,7 @@ ghost use Rattle.std.specs.Prelude.{◌≡◌, ◌==◌, ◌++◌, OnOk};
 ghost use Rattle.std.specs.List.{slice_split};
 ghost use Rattle.rv_refusal.specs.Separator.{begins_separator, first_spoiled, later_hint, part_hint};
 ghost use Rattle.rv_refusal.specs.Separator.{reads_described, separator_hint, separator_question};
-ghost use Rattle.rv_refusal.specs.Separator.{spoiled_line, spoils_separator};
+ghost use Rattle.rv_refusal.specs.Separator.{spoiled_line, spoiled_text, spoils_separator};
 
 use crate::entry_line::entry_on;
 use crate::name_on::{begins_with, blanks, goes_on_with, key_on};
@@ -101,6 +101,14 @@ fn first_spoiled(text: &[u8]) -> Option<usize>
     None
 }
 
+// What stands before the place of a line that is no separator.
+#[tactic(auto, unfolding(crate::specs::Separator::spoiled_text))]
+fn spoiled_text() -> &'static [u8]
+    ensures { result.now ≡ spoiled_text }
+{
+    b"hint: a line %% has nothing but these two bytes: see "
+}
+
 // Appends what is said of such a line, by its number in an assembly that so many lines of the job stand before, unless
 // it is the one at fault.
 #[tactic(auto, unfolding(crate::specs::Separator::spoiled_line))]
@@ -115,10 +123,7 @@ fn add_spoiled_line(
     if other == number {
         return Ok(());
     }
-    add_text(
-        out,
-        b"hint: a line %% has nothing but these two bytes: see ",
-    )?;
+    add_text(out, spoiled_text())?;
     add_line_place(out, b"assembly", before, other)?;
     add_text(out, b"\n")
 }
