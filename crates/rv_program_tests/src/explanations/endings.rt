@@ -90,12 +90,12 @@ const OTHERS: [&str; 4] = [
 #[test]
 fn no_other_end_is_one_in_a_return_that_goes_to_itself(rt: HostRuntime) {
     for limit in 20..36 {
-        let command = Command::Explain {
-            figures: true,
-            path: false,
-            limit,
-        };
         for program in OTHERS {
+            let command = Command::Explain {
+                figures: true,
+                path: false,
+                limit,
+            };
             check_without(&rt, rt.alloc(), command, program, TO_ITSELF);
         }
     }
