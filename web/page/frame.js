@@ -6,7 +6,7 @@ let seenCycle;
 let marksPath = false;
 
 // The viewer's critical path.
-function showPathInPicture() {
+function showPathInSteps() {
   marksPath = true;
   chooseView("steps");
 }

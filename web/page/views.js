@@ -10,7 +10,7 @@ const PATH = { name: "path", key: "critical", label: "critical path", isSwitch: 
 const KONATA = "For the pipeline viewer Konata: save it, and open the file there.";
 const ONE_AT_A_TIME = "The same program on the machine that takes one instruction after the other; limit and arrivals count steps.";
 const CRITICAL = "Each event waited last for one other event: walking back from the last one, each cycle of the run has one cause.";
-const IN_PICTURE = { title: "Show it in the picture", act: showPathInPicture };
+const IN_STEPS = { title: "Show it in Steps", act: showPathInSteps };
 const NEIGHBOURS = "The job on machines that differ from its own in one key; the change is in thousandths of the cycles.";
 const TRACE = "R retired, T trap, N interrupt; F, D, I, B, C: the cycles of fetch, dispatch, issue, broadcast and commit.";
 
@@ -22,7 +22,7 @@ const VIEWS = [
   { name: "compare", title: "Compare", command: "compare", limit: true, input: comparedInput, refused: refusedMachine, show: showComparison, file: "compare.tsv" },
   { name: "explain", title: "Explain", command: "explain", options: [FIGURES, PATH], limit: true, show: showSentences, file: "explain.txt" },
   { name: "profile", title: "Profile", command: "profile", options: [PATH], limit: true, show: showTable, file: "profile.tsv" },
-  { name: "path", title: "Path", command: "path", limit: true, show: showSentences, file: "path.txt", note: CRITICAL, also: IN_PICTURE },
+  { name: "path", title: "Path", command: "path", limit: true, show: showSentences, file: "path.txt", note: CRITICAL, also: IN_STEPS },
   { name: "sensitivity", title: "What would help", command: "sensitivity", limit: true, show: showTable, file: "sensitivity.tsv", note: NEIGHBOURS },
   { name: "trace", title: "Trace", command: "run", words: ["--trace"], limit: true, show: showText, file: "trace.txt", note: TRACE },
   { name: "log", title: "Log", command: "log", limit: true, show: showText, file: "run.kanata", note: KONATA },
