@@ -81,13 +81,19 @@ function showReport({ output }) {
   if (end >= 0) byId("shown").append(element("h3", { textContent: "Memory" }), element("pre", { className: "state", textContent: text.slice(end) }));
 }
 
+// The columns that name a row: one stays at the left edge when its table is scrolled to the side.
+const ROW_NAMES = ["statement", "key", "name"];
+
 // Columns that hold nothing but figures stand at the right, with their names.
 function tableOf(lines, cellOf) {
   const rows = lines.slice(1).map((line) => line.split("\t"));
   const kinds = lines[0].split("\t").map((_, at) => (rows.every((cells) => isFigure(cells[at] || "")) ? "figure" : "words"));
+  const named = lines[0].split("\t").findIndex((name) => ROW_NAMES.includes(name));
   const nameOf = (name, at) => element("th", { scope: "col", className: kinds[at], textContent: name.replace(/_/g, " ") });
   const head = element("tr", {}, ...lines[0].split("\t").map(nameOf));
   const body = rows.map((cells) => element("tr", {}, ...cells.map((cell, at) => cellOf(cell, at, kinds[at]))));
+  for (const row of body) row.cells[named]?.setAttribute("role", "rowheader");
+  for (const row of [head, ...body]) if (row.cells[named]) row.cells[named].dataset.stays = "";
   const table = element("table", { className: "sheet" }, element("thead", {}, head), element("tbody", {}, ...body));
   return element("div", { className: "scroll", tabIndex: 0, role: "region", "aria-label": "table" }, table);
 }
