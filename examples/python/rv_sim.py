@@ -243,9 +243,14 @@ def path_lines(assembly, description=None, *, arrivals=None, limit=None):
 def sensitivity(assembly, description=None, *, arrivals=None, limit=None, also=None):
     """The rows of `sensitivity`, as dictionaries: the machine as it is, and those with one key changed, that with the fewest cycles first.
     `also` has values of one's own by their keys, four at most. What was changed, and from what to what, are texts."""
-    words = [*limit_words(limit), *(it for key, value in (also or {}).items() for it in ("--also", f"{key}={value}"))]
+    words = [*limit_words(limit), *(it for key, value in (also or {}).items() for it in ("--also", setting(key, value)))]
     rows = read_table(call(["sensitivity", *words], job(assembly, description, arrivals)))
     return [{**row, "cycles": int(row["cycles"]), "change": int(row["change"])} for row in rows]
+
+
+def setting(key, value):
+    """A value for a key, as --also takes it: True and False as a description writes them."""
+    return f"{key}={str(value).lower() if isinstance(value, bool) else value}"
 
 
 def states(assembly, description=None, *, arrivals=None, first=None, cycles=None):
