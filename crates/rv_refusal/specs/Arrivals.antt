@@ -11,7 +11,7 @@ use Rattle.rv_refusal.specs.EntryLine.{EntryLine, entry_on, field_names, field_o
 use Rattle.rv_refusal.specs.EntryLine.{first_sought, heading_names, in_entry, unknown_on}
 use Rattle.rv_refusal.specs.KeyLine.{is_none_of}
 use Rattle.rv_refusal.specs.Lines.{line_feeds}
-use Rattle.rv_refusal.specs.Near.{hint_line}
+use Rattle.rv_refusal.specs.Near.{spelling_line}
 use Rattle.rv_refusal.specs.Place.{line_place, shown_line}
 use Rattle.rv_refusal.specs.TomlFault.{no_toml}
 
@@ -83,7 +83,7 @@ arrival_expected = codes "expected: entries [[arrival]], each with cycle, line a
 
 -- the known names that an unknown one may stand for; a known one stands where it is not known
 abbrev pub name_hint : List ℕ → List ℕ
-name_hint name = if is_none_of arrival_names name then hint_line name arrival_names else []
+name_hint name = if is_none_of arrival_names name then spelling_line name arrival_names else []
 
 -- a line with an unknown name, what was expected there, and the known names that it may stand for
 unfoldable pub unknown_line : ℕ → EntryLine → List ℕ

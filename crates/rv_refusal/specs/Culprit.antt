@@ -21,6 +21,7 @@ use Rattle.rv_asm.specs.declared.fault.AsmFault.TheVariants as fault
 use Rattle.rv_asm.specs.declared.operation.Form.TheVariants as form
 use Rattle.rv_asm.specs.declared.operation.Place.TheVariants as place
 use Rattle.rv_refusal.specs.Definition.{definition_on}
+use Rattle.rv_refusal.specs.OrElse.{or_else}
 
 -- the tokens from each operand on that stands after a comma
 abbrev pub later_operands : List Token → List (List Token)
@@ -133,9 +134,8 @@ Answers gives question =
 abbrev pub first_operand : (Option Operand → Bool) → List (List Token) → Option (List Token)
 first_operand is_sought operands = find (λ operand. is_sought (operand_at operand)) operands
 
--- the operand of data of a width for which a fault is reported: the only one, or the first wrong one of several
+-- the first operand of data of a width for which a fault is reported by what is written alone
 abbrev pub wrong_value : AsmFault → (List ℕ → Bool) → Width → List (List Token) → Option (List Token)
-wrong_value fault defined width (operand ∷ []) = Some operand
 wrong_value fault defined width operands = first_operand (is_wrong_value fault defined width) operands
 
 -- a symbol is written
@@ -205,14 +205,9 @@ operand_of_fault fault defined (token.Name name ∷ rest) =
     else None
 operand_of_fault fault defined _ = None
 
--- the first one, where it has tokens, else the other one
-abbrev pub unless_empty : List Token → List Token → List Token
-unless_empty [] other = other
-unless_empty (first ∷ rest) other = first ∷ rest
-
 -- The tokens of a line from the one at fault on: a symbol that was defined before; an operand; or the statement, and in
 -- a line without one its label. Where a line defines several symbols, none is named.
 unfoldable pub culprit_on : AsmFault → (List ℕ → Bool) → List Token → Option (List Token)
 culprit_on fault.DuplicateSymbol defined tokens = definition_on tokens
 culprit_on fault defined tokens =
-    Some (unwrap_or (operand_of_fault fault defined (body_of tokens)) (unless_empty (body_of tokens) tokens))
+    Some (unwrap_or (operand_of_fault fault defined (body_of tokens)) (or_else (body_of tokens) tokens))

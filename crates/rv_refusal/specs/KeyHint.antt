@@ -4,7 +4,8 @@ use Rattle.std.specs.{List.flat_map, List.list_any, Option.option_map_or, Str.by
 use Rattle.rv_isa.specs.Key.{order}
 use Rattle.rv_refusal.specs.KeyLine.{KeyLine}
 use Rattle.rv_refusal.specs.KeyNames.{names_in, tables_from}
-use Rattle.rv_refusal.specs.Near.{hint_line, names_line}
+use Rattle.rv_refusal.specs.Near.{names_line, spelling_line}
+use Rattle.rv_refusal.specs.OrElse.{or_else}
 
 -- names, each with a comma and a blank after it
 abbrev pub each_name : List (List ℕ) → List ℕ
@@ -24,11 +25,6 @@ place_names None =
     ++ all_names (codes "tables") [] (tables_from None order)
 place_names (Some table) = all_names (codes "keys of ") table (names_in (Some table) order)
 
--- a line, or else those with all names that may stand there
-unfoldable pub or_place_names : Option (List ℕ) → List ℕ → List ℕ
-or_place_names table [] = place_names table
-or_place_names table (byte ∷ bytes) = byte ∷ bytes
-
 -- which key a name is in the table that it stands in
 unfoldable pub here_line : KeyLine → List ℕ
 here_line found =
@@ -36,7 +32,7 @@ here_line found =
 
 -- the lines on an unknown name by the keys that have it in another table, or else by the known names that it may stand for
 unfoldable pub table_hint : List (List ℕ) → KeyLine → List (List ℕ) → List ℕ
-table_hint known found [] = or_place_names found.table (hint_line found.name known)
+table_hint known found [] = or_else (spelling_line found.name known) (place_names found.table)
 table_hint known found (key ∷ keys) = here_line found ++ names_line (key ∷ keys)
 
 -- which key a name is that stands in a table, and is known in none

@@ -1,6 +1,5 @@
-pub mod Advice
 pub mod Arrivals
-pub mod ByteAdvice
+pub mod ByteHint
 pub mod Caret
 pub mod Culprit
 pub mod Definition
@@ -9,6 +8,7 @@ pub mod EntryLine
 pub mod Expected
 pub mod Further
 pub mod HeldName
+pub mod Hint
 pub mod KeyDefault
 pub mod KeyHint
 pub mod KeyLine
@@ -19,6 +19,7 @@ pub mod NameSet
 pub mod Names
 pub mod Near
 pub mod Operands
+pub mod OrElse
 pub mod Place
 pub mod Range
 pub mod Refusal

@@ -10,11 +10,7 @@ use Rattle.rv_describe.specs.Near.{is_near}
 use Rattle.rv_refusal.specs.Names.{known_names, unknown_name}
 use Rattle.rv_refusal.specs.NameOn.{begins_with}
 use Rattle.rv_refusal.specs.NameSet.{is_one_of}
-
--- names, or else others
-abbrev pub or_else : List (List ℕ) → List (List ℕ) → List (List ℕ)
-or_else [] others = others
-or_else (first ∷ rest) others = first ∷ rest
+use Rattle.rv_refusal.specs.OrElse.{or_else}
 
 -- the known names that are one edit away, or else those that are two away; at most three
 abbrev pub nearest : List ℕ → List (List ℕ) → List (List ℕ)
@@ -34,8 +30,8 @@ abbrev pub in_small_letters : List ℕ → List ℕ
 in_small_letters name = map to_ascii_lowercase name
 
 -- the line on an unknown name: that it is known in small letters, or else the known names that are nearest to it
-unfoldable pub hint_line : List ℕ → List (List ℕ) → List ℕ
-hint_line name known =
+unfoldable pub spelling_line : List ℕ → List (List ℕ) → List ℕ
+spelling_line name known =
     if list_any (bytes_eq (in_small_letters name)) known
     then codes "names are written in small letters: " ++ (in_small_letters name ++ codes "\n")
     else names_line (nearest name known)
@@ -78,13 +74,13 @@ unfoldable pub mnemonic_line : List ℕ → List (List ℕ) → List ℕ
 mnemonic_line name known =
     if aligns_to_power name then codes "nearest: .balign, in bytes: .balign 4 for .align 2, .balign 8 for .align 3\n"
     else if bytes_eq name (codes ".section") then names_line (codes ".text" ∷ codes ".data" ∷ [])
-    else option_map_or (λ other. names_line (other ∷ [])) (counterpart name) (hint_line name known)
+    else option_map_or (λ other. names_line (other ∷ [])) (counterpart name) (spelling_line name known)
 
 -- the line on an unknown name of assembly; that of a symbol may have capital letters
 unfoldable pub known_line : AsmFault → List ℕ → List (List ℕ) → List ℕ
 known_line UnknownMnemonic name known = mnemonic_line name known
 known_line UnknownSymbol name known = names_line (nearest name known)
-known_line _ name known = hint_line name known
+known_line _ name known = spelling_line name known
 
 -- that on the unknown name of a line at fault with these tokens, where its fault is one of a name, of an assembly that
 -- defines these symbols

@@ -5,7 +5,7 @@ use Rattle.rv_asm.specs.declared.fault.AsmError.{AsmError}
 use Rattle.rv_job.specs.Parts.{parts_of}
 use Rattle.rv_job.specs.declared.errors.SimError.{SimError}
 use Rattle.rv_job.specs.declared.errors.SimError.TheVariants.{TooLong, Description, Arrivals, Assembly, ImageDoesNotFit}
-use Rattle.rv_refusal.specs.Advice.{advice}
+use Rattle.rv_refusal.specs.Hint.{hint}
 use Rattle.rv_refusal.specs.Arrivals.{arrivals_lines}
 use Rattle.rv_refusal.specs.Caret.{caret_line}
 use Rattle.rv_refusal.specs.Described.{description_lines}
@@ -38,7 +38,7 @@ assembly_text before assembly error =
     let symbols = symbols_at error.fault assembly in
     line_text before error (is_one_of symbols) line tokens
     ++ (nearest_line error.fault (is_one_of symbols) symbols tokens
-    ++ (advice before error.fault (is_one_of symbols) line tokens ++ further_lines before error.line assembly))
+    ++ (hint before error.fault (is_one_of symbols) line tokens ++ further_lines before error.line assembly))
 
 -- why a job is refused; of assembly also which line is no separator for what stands beside its two bytes
 unfoldable pub refusal_text : List ℕ → SimError → List ℕ

@@ -11,7 +11,7 @@ use crate::caret::add_marked_line;
 use crate::entry_line::{EntryLine, Sought, first_sought};
 use crate::key_line::is_among;
 use crate::lines::line_feeds;
-use crate::near::add_hint;
+use crate::near::add_spelling_line;
 use crate::place::add_line_place;
 use crate::text::{add_all, add_number, add_text};
 use crate::toml_fault::add_no_toml;
@@ -210,7 +210,7 @@ fn add_name_hint(alloc: Global, out: &mut Vec<u8>, name: &[u8]) -> Result<(), Al
     if is_among(name, arrival_names()) {
         return Ok(());
     }
-    add_hint(alloc, out, name, arrival_names())
+    add_spelling_line(alloc, out, name, arrival_names())
 }
 
 // Appends a line with an unknown name, what was expected there, and the known names that it may stand for.

@@ -3,10 +3,10 @@ ghost use Rattle.rv_asm.specs.Read.{tokens_in};
 ghost use Rattle.rv_refusal.specs.NameSet.{holds};
 ghost use Rattle.rv_refusal.specs.Refusal.{assembly_text, line_text};
 
-use crate::advice::add_advice;
 use crate::caret::add_caret_line;
 use crate::expected::add_expected;
 use crate::further::add_further;
+use crate::hint::add_hint;
 use crate::lines::line_at;
 use crate::name_set::NameSet;
 use crate::place::{add_line, add_place};
@@ -63,7 +63,7 @@ pub(crate) fn add_assembly(
         symbols,
         tokens.as_slice(),
     )?;
-    add_advice(
+    add_hint(
         alloc,
         out,
         before,

@@ -10,7 +10,8 @@ ghost use Rattle.rv_refusal.specs.Culprit.{has_unknown_register, holds_register,
 ghost use Rattle.rv_refusal.specs.Culprit.{is_misfit, is_of_operands, is_past_csrs, is_symbolic, is_too_wide};
 ghost use Rattle.rv_refusal.specs.Culprit.{is_undefined, symbolic_value};
 ghost use Rattle.rv_refusal.specs.Culprit.{is_wrong_value, marked, may_be_out_of_range, operand_of_fault};
-ghost use Rattle.rv_refusal.specs.Culprit.{operands_left, operands_on, unless_empty, wrong_value};
+ghost use Rattle.rv_refusal.specs.Culprit.{operands_left, operands_on, wrong_value};
+ghost use Rattle.rv_refusal.specs.OrElse.{or_else};
 
 use crate::definition::definition_on;
 use crate::name_set::NameSet;
@@ -208,7 +209,7 @@ fn first_operand<'t, 'a, F: Fn(Option<Operand<'a>>) -> bool>(
     None
 }
 
-// The operand of data of a width for which a fault is reported: the only one, or the first wrong one of several.
+// The first operand of data of a width for which a fault is reported by what is written alone.
 fn wrong_value<'t, 'a>(
     fault: AsmFault,
     defined: &NameSet<'_>,
@@ -218,9 +219,6 @@ fn wrong_value<'t, 'a>(
     ensures { option_map (λ from. tokens_in from.now) result
         ≡ wrong_value fault (holds defined.now) width (operands_left operands.entry) }
 {
-    if after_operand(operands?).is_none() {
-        return operands;
-    }
     first_operand(operands, |written| {
         is_wrong_value(fault, defined, width, written)
     })
@@ -365,12 +363,12 @@ pub(crate) fn operand_of_fault<'t, 'a>(
     Some(marked(fault, operand))
 }
 
-// The first tokens, where there are some, else the other ones.
-fn unless_empty<'t, 'a>(tokens: &'t [Token<'a>], other: &'t [Token<'a>]) -> &'t [Token<'a>]
-    ensures { tokens_in result.now ≡ unless_empty (tokens_in tokens.entry.now) (tokens_in other.entry.now) }
+// Tokens, where there are some, or else others.
+fn or_else<'t, 'a>(tokens: &'t [Token<'a>], others: &'t [Token<'a>]) -> &'t [Token<'a>]
+    ensures { tokens_in result.now ≡ or_else (tokens_in tokens.entry.now) (tokens_in others.entry.now) }
 {
     match tokens {
-        [] => other,
+        [] => others,
         _ => tokens,
     }
 }
@@ -391,6 +389,6 @@ pub(crate) fn culprit_on<'t, 'a>(
     let body = after_labels(tokens);
     match operand_of_fault(fault, defined, body) {
         Some(operand) => Some(operand),
-        None => Some(unless_empty(body, tokens)),
+        None => Some(or_else(body, tokens)),
     }
 }

@@ -1,14 +1,15 @@
 ghost use Rattle.std.specs.Prelude.{◌≡◌, ◌++◌, [], IfOk, None, OnOk, codes, map, option_copied};
 ghost use Rattle.rv_isa.specs.Key.{order};
 ghost use Rattle.rv_refusal.specs.KeyHint.{all_names, arrivals_line, each_name, here_line, key_hint};
-ghost use Rattle.rv_refusal.specs.KeyHint.{or_place_names, outside_line, place_names, table_hint};
+ghost use Rattle.rv_refusal.specs.KeyHint.{outside_line, place_names, table_hint};
 ghost use Rattle.rv_refusal.specs.KeyLine.{key_line};
 ghost use Rattle.rv_refusal.specs.KeyNames.{names_in, tables_from};
-ghost use Rattle.rv_refusal.specs.Near.{hint_line};
+ghost use Rattle.rv_refusal.specs.Near.{spelling_line};
+ghost use Rattle.rv_refusal.specs.OrElse.{or_else};
 
 use crate::key_line::{KeyLine, full_name, is_among};
 use crate::key_names::{names_in, table_names};
-use crate::near::{add_hint, add_names_line};
+use crate::near::{add_names_line, add_spelling_line};
 use crate::text::{add_all, add_text};
 use std::alloc::{AllocError, Global};
 
@@ -76,14 +77,13 @@ fn add_place_names(alloc: Global, out: &mut Vec<u8>, table: Option<&[u8]>) -> Re
 }
 
 // Appends a line, or else those with all names that may stand in a table, or in none.
-#[tactic(auto, unfolding(crate::specs::KeyHint::or_place_names))]
 fn add_or_place_names(
     alloc: Global,
     out: &mut Vec<u8>,
     table: Option<&[u8]>,
     line: &[u8],
 ) -> Result<(), AllocError>
-    ensures { OnOk result (out.new.items ≡ out.old.items ++ or_place_names (option_copied table.entry) line.now) }
+    ensures { OnOk result (out.new.items ≡ out.old.items ++ or_else line.now (place_names (option_copied table.entry))) }
 {
     if line.is_empty() {
         return add_place_names(alloc, out, table);
@@ -92,13 +92,13 @@ fn add_or_place_names(
 }
 
 // The line on the known names that an unknown one may stand for, empty where there are none.
-fn name_hint(alloc: Global, known: &[&[u8]], found: KeyLine<'_>) -> Result<Vec<u8>, AllocError>
+fn spelling(alloc: Global, known: &[&[u8]], found: KeyLine<'_>) -> Result<Vec<u8>, AllocError>
     ensures { IfOk result (λ line. line.items
-        ≡ hint_line (key_line found.entry).name (map (λ name. name.now) known.now)) }
+        ≡ spelling_line (key_line found.entry).name (map (λ name. name.now) known.now)) }
 {
     let name = full_name(alloc, found)?;
     let mut line = Vec::new(alloc);
-    add_hint(alloc, &mut line, name.as_slice(), known)?;
+    add_spelling_line(alloc, &mut line, name.as_slice(), known)?;
     Ok(line)
 }
 
@@ -127,7 +127,7 @@ fn add_table_hint(
         (key_line found.entry) (map (λ name. name.now) keys.now)) }
 {
     if keys.is_empty() {
-        let line = name_hint(alloc, known, found)?;
+        let line = spelling(alloc, known, found)?;
         return add_or_place_names(alloc, out, found.table, line.as_slice());
     }
     add_here_line(out, found)?;

@@ -3,10 +3,9 @@
 //! explained. Beside it stands what is shown of words that are no command: some text of `clap`, with a hint after it.
 #![tactic(auto)]
 
-mod advice;
 mod arrivals;
 mod assembly;
-mod byte_advice;
+mod byte_hint;
 mod caret;
 mod culprit;
 mod definition;
@@ -14,6 +13,7 @@ mod described;
 mod entry_line;
 mod expected;
 mod further;
+mod hint;
 mod key_default;
 mod key_hint;
 mod key_line;

@@ -1,7 +1,7 @@
 ghost use Rattle.std.specs.Prelude.{◌≡◌, ◌++◌, IfOk, OnOk, map};
 ghost use Rattle.std.specs.List.{filter};
 ghost use Rattle.rv_describe.specs.Near.{is_near};
-ghost use Rattle.rv_refusal.specs.Near.{hint_line, names_line, nearest, other_names};
+ghost use Rattle.rv_refusal.specs.Near.{spelling_line, names_line, nearest, other_names};
 
 use crate::key_line::is_among;
 use crate::names::add_name;
@@ -82,14 +82,14 @@ pub(crate) fn add_nearest(
 }
 
 /// Appends the line on an unknown name: that it is known in small letters, or else the known names that are nearest to it.
-#[tactic(auto, unfolding(crate::specs::Near::hint_line))]
-pub(crate) fn add_hint(
+#[tactic(auto, unfolding(crate::specs::Near::spelling_line))]
+pub(crate) fn add_spelling_line(
     alloc: Global,
     out: &mut Vec<u8>,
     name: &[u8],
     known: &[&[u8]],
 ) -> Result<(), AllocError>
-    ensures { OnOk result (out.new.items ≡ out.old.items ++ hint_line name.now (map (λ other. other.now) known.now)) }
+    ensures { OnOk result (out.new.items ≡ out.old.items ++ spelling_line name.now (map (λ other. other.now) known.now)) }
 {
     let small = name.to_ascii_lowercase(alloc)?;
     if is_among(small.as_slice(), known) {

@@ -10,7 +10,7 @@ use crate::key_line::is_among;
 use crate::name_on::begins_with;
 use crate::name_set::NameSet;
 use crate::names::{add_mnemonics, csrs, directives, registers};
-use crate::near::{add_hint, add_names_line, add_nearest};
+use crate::near::{add_names_line, add_nearest, add_spelling_line};
 use crate::statement::{after_labels, first_name};
 use crate::text::add_text;
 use rv_asm::{AsmFault, Form, Operation, Token, form_named};
@@ -164,7 +164,7 @@ fn add_mnemonic_line(
     }
     match counterpart(name) {
         Some(other) => add_names_line(out, &[other]),
-        None => add_hint(alloc, out, name, known),
+        None => add_spelling_line(alloc, out, name, known),
     }
 }
 
@@ -185,7 +185,7 @@ fn add_known(
     match fault {
         AsmFault::UnknownMnemonic => add_mnemonic_line(alloc, out, name, known.as_slice()),
         AsmFault::UnknownSymbol => add_nearest(alloc, out, name, known.as_slice()),
-        _ => add_hint(alloc, out, name, known.as_slice()),
+        _ => add_spelling_line(alloc, out, name, known.as_slice()),
     }
 }
 

@@ -1,5 +1,5 @@
 ghost use Rattle.std.specs.Prelude.{◌≡◌};
-ghost use Rattle.rv_refusal.specs.ByteAdvice.{byte_advice, bytes_advice, is_mark, mark_advice, reads_as_part};
+ghost use Rattle.rv_refusal.specs.ByteHint.{byte_hint, bytes_hint, is_mark, mark_hint, reads_as_part};
 
 use crate::caret::token_place;
 use crate::name_on::{goes_on_with, key_on};
@@ -11,9 +11,9 @@ fn is_mark(marks: &[u8], byte: u8) -> bool
 }
 
 // What to write in place of an operator, a bracket, a quote or a sign of other assemblers.
-#[tactic(auto, unfolding(crate::specs::ByteAdvice::mark_advice))]
-fn mark_advice(byte: u8) -> &'static [u8]
-    ensures { result.now ≡ mark_advice byte }
+#[tactic(auto, unfolding(crate::specs::ByteHint::mark_hint))]
+fn mark_hint(byte: u8) -> &'static [u8]
+    ensures { result.now ≡ mark_hint byte }
 {
     if is_mark(b";/", byte) {
         return b"hint: a comment begins with #, and a line has one statement\n";
@@ -43,9 +43,9 @@ fn mark_advice(byte: u8) -> &'static [u8]
 }
 
 // What to write in place of what begins with a byte and is no token.
-#[tactic(auto, unfolding(crate::specs::ByteAdvice::byte_advice))]
-fn byte_advice(byte: u8) -> &'static [u8]
-    ensures { result.now ≡ byte_advice byte }
+#[tactic(auto, unfolding(crate::specs::ByteHint::byte_hint))]
+fn byte_hint(byte: u8) -> &'static [u8]
+    ensures { result.now ≡ byte_hint byte }
 {
     if byte.is_ascii_digit() {
         return b"hint: a number is decimal, or has 0x or 0b before it, and is at most 4294967295; no name begins with a digit\n";
@@ -53,7 +53,7 @@ fn byte_advice(byte: u8) -> &'static [u8]
     if byte > 127 {
         return b"hint: this byte is not ASCII, as a blank, a quote or a minus of a word processor is none\n";
     }
-    mark_advice(byte)
+    mark_hint(byte)
 }
 
 // Whether a line reads as a separator or as a heading of a table, or as one with a key where the assembly begins on the
@@ -66,15 +66,15 @@ fn reads_as_part(before: usize, line: &[u8]) -> bool
 
 /// What to write in place of the first bytes of a line that are no token; nothing where another part of the job may be
 /// meant.
-#[tactic(auto, unfolding(crate::specs::ByteAdvice::bytes_advice))]
-pub(crate) fn bytes_advice(before: usize, line: &[u8]) -> &'static [u8]
-    ensures { result.now ≡ bytes_advice before line.now }
+#[tactic(auto, unfolding(crate::specs::ByteHint::bytes_hint))]
+pub(crate) fn bytes_hint(before: usize, line: &[u8]) -> &'static [u8]
+    ensures { result.now ≡ bytes_hint before line.now }
 {
     if reads_as_part(before, line) {
         return b"";
     }
     match line.get(token_place(line, line.len())) {
-        Some(byte) => byte_advice(*byte),
+        Some(byte) => byte_hint(*byte),
         None => b"",
     }
 }

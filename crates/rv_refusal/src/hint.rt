@@ -1,13 +1,13 @@
-ghost use Rattle.std.specs.Prelude.{◌≡◌, ◌++◌, IfOk, OnOk};
+ghost use Rattle.std.specs.Prelude.{◌≡◌, ◌++◌, IfOk, OnOk, map};
 ghost use Rattle.rv_asm.specs.Read.{token_of, tokens_in};
-ghost use Rattle.rv_refusal.specs.Advice.{accesses_memory, address_advice, advice, begins_with_number, body_advice};
-ghost use Rattle.rv_refusal.specs.Advice.{directive_advice, is_known_otherwise, is_of_two_words, is_word};
-ghost use Rattle.rv_refusal.specs.Advice.{label_advice, lacks_comma};
-ghost use Rattle.rv_refusal.specs.Advice.{makes_lines, may_be_left_out, name_advice, operand_advice, operands_advice};
-ghost use Rattle.rv_refusal.specs.Advice.{range_advice, reads_as_label, register_advice, statement_advice, with_number};
+ghost use Rattle.rv_refusal.specs.Hint.{accesses_memory, address_hint, begins_with_number, body_hint};
+ghost use Rattle.rv_refusal.specs.Hint.{directive_hint, double_directives, hint, idle_directives};
+ghost use Rattle.rv_refusal.specs.Hint.{is_known_otherwise, is_word, label_hint, lacks_comma, line_directives};
+ghost use Rattle.rv_refusal.specs.Hint.{name_hint, operand_hint, operands_hint, range_hint, reads_as_label};
+ghost use Rattle.rv_refusal.specs.Hint.{register_hint, statement_hint, with_number};
 ghost use Rattle.rv_refusal.specs.NameSet.{holds};
 
-use crate::byte_advice::bytes_advice;
+use crate::byte_hint::bytes_hint;
 use crate::culprit::operand_of_fault;
 use crate::key_line::is_among;
 use crate::name_on::begins_with;
@@ -19,51 +19,54 @@ use crate::unknown::{counterpart, unknown_name};
 use rv_asm::{AsmFault, Token, form_named};
 use std::alloc::{AllocError, Global};
 
-// Whether a directive of other assemblers says nothing to this machine.
-fn may_be_left_out(name: &[u8]) -> bool
-    ensures { result ≡ may_be_left_out name.now }
+// Directives of other assemblers that say nothing to this machine.
+static IDLE_DIRECTIVES: [&[u8]; 10] = [
+    b".option",
+    b".type",
+    b".size",
+    b".file",
+    b".ident",
+    b".attribute",
+    b".end",
+    b".weak",
+    b".local",
+    b".loc",
+];
+
+// Those that make lines, or take them in under a condition.
+static LINE_DIRECTIVES: [&[u8]; 8] = [
+    b".macro",
+    b".endm",
+    b".rept",
+    b".endr",
+    b".if",
+    b".else",
+    b".endif",
+    b".include",
+];
+
+// Those of data of 64 bits.
+static DOUBLE_DIRECTIVES: [&[u8]; 3] = [b".quad", b".dword", b".8byte"];
+
+#[tactic(auto, unfolding(crate::specs::Hint::idle_directives))]
+fn idle_directives() -> &'static [&'static [u8]]
+    ensures { map (λ name. name.now) result.now ≡ idle_directives }
 {
-    is_among(
-        name,
-        &[
-            b".option",
-            b".type",
-            b".size",
-            b".file",
-            b".ident",
-            b".attribute",
-            b".end",
-            b".weak",
-            b".local",
-            b".loc",
-        ],
-    )
+    &IDLE_DIRECTIVES
 }
 
-// Whether a directive of other assemblers makes lines, or takes them in under a condition.
-fn makes_lines(name: &[u8]) -> bool
-    ensures { result ≡ makes_lines name.now }
+#[tactic(auto, unfolding(crate::specs::Hint::line_directives))]
+fn line_directives() -> &'static [&'static [u8]]
+    ensures { map (λ name. name.now) result.now ≡ line_directives }
 {
-    is_among(
-        name,
-        &[
-            b".macro",
-            b".endm",
-            b".rept",
-            b".endr",
-            b".if",
-            b".else",
-            b".endif",
-            b".include",
-        ],
-    )
+    &LINE_DIRECTIVES
 }
 
-// Whether a directive of other assemblers is one of data of 64 bits.
-fn is_of_two_words(name: &[u8]) -> bool
-    ensures { result ≡ is_of_two_words name.now }
+#[tactic(auto, unfolding(crate::specs::Hint::double_directives))]
+fn double_directives() -> &'static [&'static [u8]]
+    ensures { map (λ name. name.now) result.now ≡ double_directives }
 {
-    is_among(name, &[b".quad", b".dword", b".8byte"])
+    &DOUBLE_DIRECTIVES
 }
 
 // Whether a name at the front reads as a label without its colon.
@@ -78,17 +81,17 @@ fn reads_as_label(body: &[Token<'_>]) -> bool
 }
 
 // What to write in place of a statement with an unknown directive.
-#[tactic(auto, unfolding(crate::specs::Advice::directive_advice))]
-fn directive_advice(name: &[u8]) -> &'static [u8]
-    ensures { result.now ≡ directive_advice name.now }
+#[tactic(auto, unfolding(crate::specs::Hint::directive_hint))]
+fn directive_hint(name: &[u8]) -> &'static [u8]
+    ensures { result.now ≡ directive_hint name.now }
 {
-    if may_be_left_out(name) {
+    if is_among(name, idle_directives()) {
         return b"hint: this line may be left out\n";
     }
-    if makes_lines(name) {
+    if is_among(name, line_directives()) {
         return b"hint: there are no macros and no conditions: the lines stand themselves\n";
     }
-    if is_of_two_words(name) {
+    if is_among(name, double_directives()) {
         return b"hint: two words, the lower one first\n";
     }
     b""
@@ -106,14 +109,14 @@ fn is_known_otherwise(alloc: Global, name: &[u8]) -> Result<bool, AllocError>
 }
 
 // Appends what to write in place of a statement with an unknown mnemonic.
-#[tactic(auto, unfolding(crate::specs::Advice::label_advice))]
-fn add_label_advice(
+#[tactic(auto, unfolding(crate::specs::Hint::label_hint))]
+fn add_label_hint(
     alloc: Global,
     out: &mut Vec<u8>,
     name: &[u8],
     body: &[Token<'_>],
 ) -> Result<(), AllocError>
-    ensures { OnOk result (out.new.items ≡ out.old.items ++ label_advice name.now (tokens_in body.now)) }
+    ensures { OnOk result (out.new.items ≡ out.old.items ++ label_hint name.now (tokens_in body.now)) }
 {
     if is_known_otherwise(alloc, name)? {
         return Ok(());
@@ -128,29 +131,29 @@ fn add_label_advice(
 }
 
 // Appends what to write in place of a statement with an unknown name.
-fn add_name_advice(
+fn add_name_hint(
     alloc: Global,
     out: &mut Vec<u8>,
     body: &[Token<'_>],
     name: &[u8],
 ) -> Result<(), AllocError>
-    ensures { OnOk result (out.new.items ≡ out.old.items ++ name_advice (tokens_in body.now) name.now) }
+    ensures { OnOk result (out.new.items ≡ out.old.items ++ name_hint (tokens_in body.now) name.now) }
 {
     if begins_with(b'.', name) {
-        add_text(out, directive_advice(name))
+        add_text(out, directive_hint(name))
     } else {
-        add_label_advice(alloc, out, name, body)
+        add_label_hint(alloc, out, name, body)
     }
 }
 
 // Appends what to write in place of a statement whose name is unknown or that has none.
-#[tactic(auto, unfolding(crate::specs::Advice::statement_advice))]
-fn add_statement_advice(
+#[tactic(auto, unfolding(crate::specs::Hint::statement_hint))]
+fn add_statement_hint(
     alloc: Global,
     out: &mut Vec<u8>,
     body: &[Token<'_>],
 ) -> Result<(), AllocError>
-    ensures { OnOk result (out.new.items ≡ out.old.items ++ statement_advice (tokens_in body.now)) }
+    ensures { OnOk result (out.new.items ≡ out.old.items ++ statement_hint (tokens_in body.now)) }
 {
     match body {
         [Token::Number(_), Token::Colon, ..] => {
@@ -159,15 +162,15 @@ fn add_statement_advice(
         [Token::Name(_), Token::Minus, ..] => {
             add_text(out, b"hint: a name has letters, digits, _ . and $\n")
         }
-        [Token::Name(name), ..] => add_name_advice(alloc, out, body, name),
+        [Token::Name(name), ..] => add_name_hint(alloc, out, body, name),
         _ => Ok(()),
     }
 }
 
 // Appends what to write in place of a register where a value is to stand.
-#[tactic(auto, unfolding(crate::specs::Advice::register_advice))]
-fn add_register_advice(out: &mut Vec<u8>, name: &[u8]) -> Result<(), AllocError>
-    ensures { OnOk result (out.new.items ≡ out.old.items ++ register_advice name.now) }
+#[tactic(auto, unfolding(crate::specs::Hint::register_hint))]
+fn add_register_hint(out: &mut Vec<u8>, name: &[u8]) -> Result<(), AllocError>
+    ensures { OnOk result (out.new.items ≡ out.old.items ++ register_hint name.now) }
 {
     if !is_among(name, registers()) {
         return Ok(());
@@ -209,7 +212,7 @@ fn begins_with_number(operand: &[Token<'_>]) -> bool
 }
 
 // Appends what an instruction on registers is with a number in the place of one.
-#[tactic(auto, unfolding(crate::specs::Advice::with_number))]
+#[tactic(auto, unfolding(crate::specs::Hint::with_number))]
 fn add_with_number(out: &mut Vec<u8>, name: &[u8]) -> Result<(), AllocError>
     ensures { OnOk result (out.new.items ≡ out.old.items ++ with_number name.now) }
 {
@@ -244,9 +247,9 @@ fn accesses_memory(name: &[u8]) -> bool
 }
 
 // What to write in place of a name where an address is to stand.
-#[tactic(auto, unfolding(crate::specs::Advice::address_advice))]
-fn address_advice(name: &[u8]) -> &'static [u8]
-    ensures { result.now ≡ address_advice name.now }
+#[tactic(auto, unfolding(crate::specs::Hint::address_hint))]
+fn address_hint(name: &[u8]) -> &'static [u8]
+    ensures { result.now ≡ address_hint name.now }
 {
     if is_among(name, registers()) {
         b"hint: an address is written as offset(register), as in 8(sp)\n"
@@ -256,13 +259,9 @@ fn address_advice(name: &[u8]) -> &'static [u8]
 }
 
 // Appends what to write in place of an operand, from its first token on.
-#[tactic(auto, unfolding(crate::specs::Advice::operand_advice))]
-fn add_operand_advice(
-    out: &mut Vec<u8>,
-    name: &[u8],
-    operand: &[Token<'_>],
-) -> Result<(), AllocError>
-    ensures { OnOk result (out.new.items ≡ out.old.items ++ operand_advice name.now (tokens_in operand.now)) }
+#[tactic(auto, unfolding(crate::specs::Hint::operand_hint))]
+fn add_operand_hint(out: &mut Vec<u8>, name: &[u8], operand: &[Token<'_>]) -> Result<(), AllocError>
+    ensures { OnOk result (out.new.items ≡ out.old.items ++ operand_hint name.now (tokens_in operand.now)) }
 {
     if lacks_comma(operand) {
         return add_text(out, b"hint: a comma stands between two operands\n");
@@ -274,33 +273,33 @@ fn add_operand_advice(
         return Ok(());
     }
     match first_name(operand) {
-        Some(name) => add_text(out, address_advice(name)),
+        Some(name) => add_text(out, address_hint(name)),
         None => Ok(()),
     }
 }
 
 // Appends what to write in place of the operand at fault.
-fn add_operands_advice(
+fn add_operands_hint(
     out: &mut Vec<u8>,
     defined: &NameSet<'_>,
     body: &[Token<'_>],
 ) -> Result<(), AllocError>
     ensures { OnOk result (out.new.items
-        ≡ out.old.items ++ operands_advice (holds defined.now) (tokens_in body.now)) }
+        ≡ out.old.items ++ operands_hint (holds defined.now) (tokens_in body.now)) }
 {
     let Some(name) = first_name(body) else {
         return Ok(());
     };
     match operand_of_fault(AsmFault::BadOperands, defined, body) {
-        Some(operand) => add_operand_advice(out, name, operand),
+        Some(operand) => add_operand_hint(out, name, operand),
         None => Ok(()),
     }
 }
 
 // What to write in place of an immediate that is out of range.
-#[tactic(auto, unfolding(crate::specs::Advice::range_advice))]
-fn range_advice(name: &[u8]) -> &'static [u8]
-    ensures { result.now ≡ range_advice name.now }
+#[tactic(auto, unfolding(crate::specs::Hint::range_hint))]
+fn range_hint(name: &[u8]) -> &'static [u8]
+    ensures { result.now ≡ range_hint name.now }
 {
     if is_among(name, &[b"addi", b"lui"]) {
         b"hint: li loads each number of 32 bits\n"
@@ -310,8 +309,8 @@ fn range_advice(name: &[u8]) -> &'static [u8]
 }
 
 // Appends what to write in place of a statement at fault, where these symbols are defined.
-#[tactic(auto, unfolding(crate::specs::Advice::body_advice))]
-fn add_body_advice(
+#[tactic(auto, unfolding(crate::specs::Hint::body_hint))]
+fn add_body_hint(
     alloc: Global,
     out: &mut Vec<u8>,
     fault: AsmFault,
@@ -319,17 +318,17 @@ fn add_body_advice(
     body: &[Token<'_>],
 ) -> Result<(), AllocError>
     ensures { OnOk result (out.new.items
-        ≡ out.old.items ++ body_advice fault (holds defined.now) (tokens_in body.now)) }
+        ≡ out.old.items ++ body_hint fault (holds defined.now) (tokens_in body.now)) }
 {
     match fault {
-        AsmFault::UnknownMnemonic => add_statement_advice(alloc, out, body),
+        AsmFault::UnknownMnemonic => add_statement_hint(alloc, out, body),
         AsmFault::UnknownSymbol => match unknown_name(fault, defined, body) {
-            Some(name) => add_register_advice(out, name),
+            Some(name) => add_register_hint(out, name),
             None => Ok(()),
         },
-        AsmFault::BadOperands => add_operands_advice(out, defined, body),
+        AsmFault::BadOperands => add_operands_hint(out, defined, body),
         AsmFault::OutOfRange => match first_name(body) {
-            Some(name) => add_text(out, range_advice(name)),
+            Some(name) => add_text(out, range_hint(name)),
             None => Ok(()),
         },
         _ => Ok(()),
@@ -338,8 +337,8 @@ fn add_body_advice(
 
 /// Appends what to write in place of what is at fault on a line with these tokens, where these symbols are defined and
 /// so many lines of the job stand before the assembly.
-#[tactic(auto, unfolding(crate::specs::Advice::advice))]
-pub(crate) fn add_advice(
+#[tactic(auto, unfolding(crate::specs::Hint::hint))]
+pub(crate) fn add_hint(
     alloc: Global,
     out: &mut Vec<u8>,
     before: usize,
@@ -349,10 +348,10 @@ pub(crate) fn add_advice(
     tokens: &[Token<'_>],
 ) -> Result<(), AllocError>
     ensures { OnOk result (out.new.items
-        ≡ out.old.items ++ advice before fault (holds defined.now) line.now (tokens_in tokens.now)) }
+        ≡ out.old.items ++ hint before fault (holds defined.now) line.now (tokens_in tokens.now)) }
 {
     match fault {
-        AsmFault::BadToken => add_text(out, bytes_advice(before, line)),
-        _ => add_body_advice(alloc, out, fault, defined, after_labels(tokens)),
+        AsmFault::BadToken => add_text(out, bytes_hint(before, line)),
+        _ => add_body_hint(alloc, out, fault, defined, after_labels(tokens)),
     }
 }

@@ -9,8 +9,8 @@ abbrev pub is_mark : List ℕ → ℕ → Bool
 is_mark marks byte = list_any (λ mark. mark == byte) marks
 
 -- what to write in place of an operator, a bracket, a quote or a sign of other assemblers
-unfoldable pub mark_advice : ℕ → List ℕ
-mark_advice byte =
+unfoldable pub mark_hint : ℕ → List ℕ
+mark_hint byte =
     if is_mark (codes ";/") byte then codes "hint: a comment begins with #, and a line has one statement\n"
     else (if byte == 39 then codes "hint: a character is written as its number, as 65 for A\n"
     else (if byte == 37 then codes "hint: la loads the address of a symbol, without %hi and %lo\n"
@@ -22,13 +22,13 @@ mark_advice byte =
     else [])))))))
 
 -- what to write in place of what begins with a byte and is no token
-unfoldable pub byte_advice : ℕ → List ℕ
-byte_advice byte =
+unfoldable pub byte_hint : ℕ → List ℕ
+byte_hint byte =
     if is_ascii_digit byte
     then codes "hint: a number is decimal, or has 0x or 0b before it, and is at most 4294967295; no name begins with a digit\n"
     else (if nat_lt 127 byte
     then codes "hint: this byte is not ASCII, as a blank, a quote or a minus of a word processor is none\n"
-    else mark_advice byte)
+    else mark_hint byte)
 
 -- a line reads as a separator or as a heading of a table, or as one with a key where the assembly begins on the job's
 -- first line
@@ -37,7 +37,7 @@ reads_as_part before line =
     goes_on_with 37 line || (goes_on_with 91 line || (before == 0 && is_some (key_on line)))
 
 -- what to write in place of the first bytes of a line that are no token; nothing where another part of the job may be meant
-unfoldable pub bytes_advice : ℕ → List ℕ → List ℕ
-bytes_advice before line =
+unfoldable pub bytes_hint : ℕ → List ℕ → List ℕ
+bytes_hint before line =
     if reads_as_part before line then []
-    else option_map_or byte_advice (slice_get line (token_place line (length line))) []
+    else option_map_or byte_hint (slice_get line (token_place line (length line))) []

@@ -1,5 +1,5 @@
 -- What to write in place of a statement at fault, where it is known what was meant.
-use Rattle.std.specs.Prelude.{ℕ, List, [], ◌∷◌, ◌++◌, codes, Bool, true, false, ◌||◌, if◌then◌else◌}
+use Rattle.std.specs.Prelude.{ℕ, List, [], ◌∷◌, ◌++◌, codes, Bool, true, false, ◌&&◌, ◌||◌, if◌then◌else◌}
 use Rattle.std.specs.Prelude.{is_some}
 use Rattle.std.specs.{Option.option_map_or, Str.bytes_eq}
 use Rattle.rv_asm.specs.Layout.{body_of}
@@ -8,7 +8,7 @@ use Rattle.rv_asm.specs.Token.{Token}
 use Rattle.rv_asm.specs.Token as token
 use Rattle.rv_asm.specs.declared.fault.AsmFault.{AsmFault}
 use Rattle.rv_asm.specs.declared.fault.AsmFault.TheVariants as fault
-use Rattle.rv_refusal.specs.ByteAdvice.{bytes_advice}
+use Rattle.rv_refusal.specs.ByteHint.{bytes_hint}
 use Rattle.rv_refusal.specs.Culprit.{operand_of_fault}
 use Rattle.rv_refusal.specs.Names.{registers, unknown_name}
 use Rattle.rv_refusal.specs.NameOn.{begins_with}
@@ -16,21 +16,21 @@ use Rattle.rv_refusal.specs.NameSet.{is_one_of}
 use Rattle.rv_refusal.specs.Near.{counterpart, in_small_letters}
 use Rattle.rv_refusal.specs.Statement.{first_name}
 
--- a directive of other assemblers that says nothing to this machine
-abbrev pub may_be_left_out : List ℕ → Bool
-may_be_left_out name =
-    is_one_of (codes ".option" ∷ codes ".type" ∷ codes ".size" ∷ codes ".file" ∷ codes ".ident" ∷ codes ".attribute"
-    ∷ codes ".end" ∷ codes ".weak" ∷ codes ".local" ∷ codes ".loc" ∷ []) name
+-- directives of other assemblers that say nothing to this machine
+unfoldable pub idle_directives : List (List ℕ)
+idle_directives =
+    codes ".option" ∷ codes ".type" ∷ codes ".size" ∷ codes ".file" ∷ codes ".ident" ∷ codes ".attribute" ∷ codes ".end"
+    ∷ codes ".weak" ∷ codes ".local" ∷ codes ".loc" ∷ []
 
--- a directive of other assemblers that makes lines, or takes them in under a condition
-abbrev pub makes_lines : List ℕ → Bool
-makes_lines name =
-    is_one_of (codes ".macro" ∷ codes ".endm" ∷ codes ".rept" ∷ codes ".endr" ∷ codes ".if" ∷ codes ".else"
-    ∷ codes ".endif" ∷ codes ".include" ∷ []) name
+-- those that make lines, or take them in under a condition
+unfoldable pub line_directives : List (List ℕ)
+line_directives =
+    codes ".macro" ∷ codes ".endm" ∷ codes ".rept" ∷ codes ".endr" ∷ codes ".if" ∷ codes ".else" ∷ codes ".endif"
+    ∷ codes ".include" ∷ []
 
--- data of 64 bits
-abbrev pub is_of_two_words : List ℕ → Bool
-is_of_two_words name = is_one_of (codes ".quad" ∷ codes ".dword" ∷ codes ".8byte" ∷ []) name
+-- those of data of 64 bits
+unfoldable pub double_directives : List (List ℕ)
+double_directives = codes ".quad" ∷ codes ".dword" ∷ codes ".8byte" ∷ []
 
 -- a name at the front reads as a label without its colon: it stands alone, or a statement follows it
 abbrev pub reads_as_label : List Token → Bool
@@ -39,11 +39,11 @@ reads_as_label (token.Name name ∷ token.Name next ∷ rest) = is_some (form_na
 reads_as_label _ = false
 
 -- what to write in place of a statement with an unknown directive
-unfoldable pub directive_advice : List ℕ → List ℕ
-directive_advice name =
-    if may_be_left_out name then codes "hint: this line may be left out\n"
-    else (if makes_lines name then codes "hint: there are no macros and no conditions: the lines stand themselves\n"
-    else (if is_of_two_words name then codes "hint: two words, the lower one first\n"
+unfoldable pub directive_hint : List ℕ → List ℕ
+directive_hint name =
+    if is_one_of idle_directives name then codes "hint: this line may be left out\n"
+    else (if is_one_of line_directives name then codes "hint: there are no macros and no conditions: the lines stand themselves\n"
+    else (if is_one_of double_directives name then codes "hint: two words, the lower one first\n"
     else []))
 
 -- a name is known otherwise: from other assemblers, or in small letters
@@ -51,25 +51,25 @@ abbrev pub is_known_otherwise : List ℕ → Bool
 is_known_otherwise name = is_some (counterpart name) || is_some (form_named (in_small_letters name))
 
 -- what to write in place of a statement with an unknown mnemonic
-unfoldable pub label_advice : List ℕ → List Token → List ℕ
-label_advice name body =
+unfoldable pub label_hint : List ℕ → List Token → List ℕ
+label_hint name body =
     if is_known_otherwise name then []
     else (if reads_as_label body then codes "hint: a label has a colon after it, as in " ++ (name ++ codes ":\n")
     else [])
 
 -- what to write in place of a statement with an unknown name
-abbrev pub name_advice : List Token → List ℕ → List ℕ
-name_advice body name = if begins_with 46 name then directive_advice name else label_advice name body
+abbrev pub name_hint : List Token → List ℕ → List ℕ
+name_hint body name = if begins_with 46 name then directive_hint name else label_hint name body
 
 -- what to write in place of a statement whose name is unknown or that has none
-unfoldable pub statement_advice : List Token → List ℕ
-statement_advice (token.Number number ∷ token.Colon ∷ rest) = codes "hint: a label is a name, as in again:\n"
-statement_advice (token.Name name ∷ token.Minus ∷ rest) = codes "hint: a name has letters, digits, _ . and $\n"
-statement_advice body = option_map_or (name_advice body) (first_name body) []
+unfoldable pub statement_hint : List Token → List ℕ
+statement_hint (token.Number number ∷ token.Colon ∷ rest) = codes "hint: a label is a name, as in again:\n"
+statement_hint (token.Name name ∷ token.Minus ∷ rest) = codes "hint: a name has letters, digits, _ . and $\n"
+statement_hint body = option_map_or (name_hint body) (first_name body) []
 
 -- what to write in place of a register where a value is to stand
-unfoldable pub register_advice : List ℕ → List ℕ
-register_advice name =
+unfoldable pub register_hint : List ℕ → List ℕ
+register_hint name =
     if is_one_of registers name
     then codes "hint: " ++ (name ++ codes " is a register, and a symbol or a number stands here\n")
     else []
@@ -82,7 +82,7 @@ is_word _ = false
 
 -- two names or numbers stand side by side
 abbrev pub lacks_comma : List Token → Bool
-lacks_comma (first ∷ second ∷ rest) = if is_word first then is_word second else false
+lacks_comma (first ∷ second ∷ rest) = is_word first && is_word second
 lacks_comma _ = false
 
 -- a number stands at the front
@@ -106,40 +106,40 @@ accesses_memory name =
     is_one_of (codes "lb" ∷ codes "lh" ∷ codes "lw" ∷ codes "lbu" ∷ codes "lhu" ∷ codes "sb" ∷ codes "sh" ∷ codes "sw" ∷ []) name
 
 -- what to write in place of a name where an address is to stand
-unfoldable pub address_advice : List ℕ → List ℕ
-address_advice name =
+unfoldable pub address_hint : List ℕ → List ℕ
+address_hint name =
     if is_one_of registers name then codes "hint: an address is written as offset(register), as in 8(sp)\n"
     else codes "hint: an address is in a register: la t0, symbol loads it, and 0(t0) is the word there\n"
 
 -- what to write in place of an operand, from its first token on
-unfoldable pub operand_advice : List ℕ → List Token → List ℕ
-operand_advice name operand =
+unfoldable pub operand_hint : List ℕ → List Token → List ℕ
+operand_hint name operand =
     if lacks_comma operand then codes "hint: a comma stands between two operands\n"
     else (if begins_with_number operand then with_number name
-    else (if accesses_memory name then option_map_or address_advice (first_name operand) []
+    else (if accesses_memory name then option_map_or address_hint (first_name operand) []
     else []))
 
 -- what to write in place of the operand at fault
-abbrev pub operands_advice : (List ℕ → Bool) → List Token → List ℕ
-operands_advice defined body =
-    option_map_or (λ name. option_map_or (operand_advice name) (operand_of_fault fault.BadOperands defined body) [])
+abbrev pub operands_hint : (List ℕ → Bool) → List Token → List ℕ
+operands_hint defined body =
+    option_map_or (λ name. option_map_or (operand_hint name) (operand_of_fault fault.BadOperands defined body) [])
     (first_name body) []
 
 -- what to write in place of an immediate that is out of range
-unfoldable pub range_advice : List ℕ → List ℕ
-range_advice name =
+unfoldable pub range_hint : List ℕ → List ℕ
+range_hint name =
     if is_one_of (codes "addi" ∷ codes "lui" ∷ []) name then codes "hint: li loads each number of 32 bits\n" else []
 
 -- what to write in place of a statement at fault, where these symbols are defined
-unfoldable pub body_advice : AsmFault → (List ℕ → Bool) → List Token → List ℕ
-body_advice fault.UnknownMnemonic defined body = statement_advice body
-body_advice fault.UnknownSymbol defined body =
-    option_map_or register_advice (unknown_name fault.UnknownSymbol defined body) []
-body_advice fault.BadOperands defined body = operands_advice defined body
-body_advice fault.OutOfRange defined body = option_map_or range_advice (first_name body) []
-body_advice _ defined body = []
+unfoldable pub body_hint : AsmFault → (List ℕ → Bool) → List Token → List ℕ
+body_hint fault.UnknownMnemonic defined body = statement_hint body
+body_hint fault.UnknownSymbol defined body =
+    option_map_or register_hint (unknown_name fault.UnknownSymbol defined body) []
+body_hint fault.BadOperands defined body = operands_hint defined body
+body_hint fault.OutOfRange defined body = option_map_or range_hint (first_name body) []
+body_hint _ defined body = []
 
 -- what to write in place of what is at fault on a line with these tokens, where so many lines stand before the assembly
-unfoldable pub advice : ℕ → AsmFault → (List ℕ → Bool) → List ℕ → List Token → List ℕ
-advice before fault.BadToken defined line tokens = bytes_advice before line
-advice before fault defined line tokens = body_advice fault defined (body_of tokens)
+unfoldable pub hint : ℕ → AsmFault → (List ℕ → Bool) → List ℕ → List Token → List ℕ
+hint before fault.BadToken defined line tokens = bytes_hint before line
+hint before fault defined line tokens = body_hint fault defined (body_of tokens)
