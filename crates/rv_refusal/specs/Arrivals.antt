@@ -9,8 +9,9 @@ use Rattle.rv_job.specs.Parts.{Parts}
 use Rattle.rv_refusal.specs.Caret.{caret_below}
 use Rattle.rv_refusal.specs.EntryLine.{EntryLine, entry_on, field_names, field_on}
 use Rattle.rv_refusal.specs.EntryLine.{first_sought, heading_names, in_entry, unknown_on}
-use Rattle.rv_refusal.specs.KeyLine.{is_none_of}
+use Rattle.rv_refusal.specs.KeyNames.{key_names}
 use Rattle.rv_refusal.specs.Lines.{line_feeds}
+use Rattle.rv_refusal.specs.NameSet.{is_one_of}
 use Rattle.rv_refusal.specs.Near.{spelling_line}
 use Rattle.rv_refusal.specs.Place.{line_place, shown_line}
 use Rattle.rv_refusal.specs.TomlFault.{no_toml}
@@ -41,16 +42,39 @@ field_line Cycle = codes "expected: cycle is a number from 0 to 1000000, no less
 field_line Line = codes "expected: line is \"software\", \"timer\" or \"external\"\n"
 field_line Level = codes "expected: level is 0 or 1, by default 1\n"
 
--- the line of a field of an entry, or else the one on which the entry begins
+-- the line of a field of an entry
 unfoldable pub line_of_field : Field → ℕ → List ℕ → Option EntryLine
-line_of_field field entry part =
-    option_or (first_sought (in_entry entry (field_on (field_name field))) part)
-    (first_sought (in_entry entry entry_on) part)
+line_of_field field entry part = first_sought (in_entry entry (field_on (field_name field))) part
+
+-- the line on which an entry begins
+unfoldable pub line_of_entry : ℕ → List ℕ → Option EntryLine
+line_of_entry entry part = first_sought (in_entry entry entry_on) part
+
+-- a line that gives a field a value, and which values the field takes
+unfoldable pub given_lines : ℕ → Field → EntryLine → List ℕ
+given_lines before field found = entry_line_text before found ++ field_line field
+
+-- that an entry has no line of a field
+unfoldable pub missing_line : Field → List ℕ
+missing_line field = codes "hint: this entry has no key " ++ (field_name field ++ codes "\n")
+
+-- the line on which an entry without a field begins, and which values the field takes
+unfoldable pub lacking_lines : ℕ → Field → EntryLine → List ℕ
+lacking_lines before field found = entry_line_text before found ++ (field_line field ++ missing_line field)
+
+-- an entry that no line is found of, and which values a field of it takes
+unfoldable pub unfound_lines : ℕ → Field → List ℕ
+unfound_lines entry field = entry_text entry ++ field_line field
+
+-- why arrivals are refused by a field of an entry that has no line of its own
+unfoldable pub missing_lines : ℕ → List ℕ → ℕ → Field → List ℕ
+missing_lines before part entry field =
+    option_map_or (lacking_lines before field) (line_of_entry entry part) (unfound_lines entry field)
 
 -- why arrivals are refused by a field of an entry: the line at fault, and which values the field takes
 unfoldable pub field_lines : ℕ → List ℕ → ℕ → Field → List ℕ
 field_lines before part entry field =
-    option_map_or (entry_line_text before) (line_of_field field entry part) (entry_text entry) ++ field_line field
+    option_map_or (given_lines before field) (line_of_field field entry part) (missing_lines before part entry field)
 
 -- the line that gives `arrival` no array: its heading, which has one bracket, or else the key
 unfoldable pub line_of_list : List ℕ → Option EntryLine
@@ -81,14 +105,18 @@ arrival_names = heading_names ++ field_names
 unfoldable pub arrival_expected : List ℕ
 arrival_expected = codes "expected: entries [[arrival]], each with cycle, line and level\n"
 
--- the known names that an unknown one may stand for; a known one stands where it is not known
-abbrev pub name_hint : List ℕ → List ℕ
-name_hint name = if is_none_of arrival_names name then spelling_line name arrival_names else []
+-- that a description stands in the place of arrivals
+unfoldable pub description_line : List ℕ
+description_line = codes "hint: a description is the first of three parts, with no line %% before it\n"
 
--- a line with an unknown name, what was expected there, and the known names that it may stand for
+-- what is said of an unknown name: that it is one of a description, or else the known names that it may stand for
+unfoldable pub name_line : List ℕ → List ℕ
+name_line name = if is_one_of key_names name then description_line else spelling_line name arrival_names
+
+-- a line with an unknown name, what was expected there, and what is said of the name
 unfoldable pub unknown_line : ℕ → EntryLine → List ℕ
 unknown_line before found =
-    entry_line_text before found ++ (arrival_expected ++ name_hint found.name)
+    entry_line_text before found ++ (arrival_expected ++ name_line found.name)
 
 -- the first line of a list of arrivals with a name that is not known there
 unfoldable pub unknown_lines : ℕ → List ℕ → List ℕ

@@ -1,7 +1,7 @@
 -- Why a description is refused.
 use Rattle.std.specs.Prelude.{ℕ, ◌-◌, ◌==◌, ◌&&◌, Bool, not, List, [], ◌++◌}
 use Rattle.std.specs.Prelude.{codes, if◌then◌else◌, is_none, Option, None, option_map, unwrap_or}
-use Rattle.std.specs.{List.list_any, List.slice_get, Option.option_map_or, Option.option_or, Str.bytes_eq}
+use Rattle.std.specs.{List.slice_get, Option.option_map_or, Option.option_or, Str.bytes_eq}
 use Rattle.rv_isa.specs.declared.keys.Key.{Key}
 use Rattle.rv_isa.specs.Key.{key_place, order, text_of}
 use Rattle.rv_describe.specs.Fault.{place_of}
@@ -13,7 +13,7 @@ use Rattle.rv_refusal.specs.KeyHint.{key_hint}
 use Rattle.rv_refusal.specs.KeyLine.{KeyLine, first_named, is_none_of}
 use Rattle.rv_refusal.specs.KeyNames.{key_names, keys_named}
 use Rattle.rv_refusal.specs.KeyDefault.{values_line}
-use Rattle.rv_refusal.specs.NameOn.{table_on}
+use Rattle.rv_refusal.specs.NameOn.{goes_on_with, table_on, value_on}
 use Rattle.rv_refusal.specs.Place.{line_place, shown_line}
 use Rattle.rv_refusal.specs.TomlFault.{no_toml}
 
@@ -59,11 +59,12 @@ line_of_name key part =
 unfoldable pub line_of_key : Key → List ℕ → Option KeyLine
 line_of_key key part = option_or (array_line key part) (line_of_name key part)
 
--- a line gives the table of a key a value that is none: it is no line of a table in brackets, and has no brace
+-- a line gives the table of a key a value that is none: it is no line of a table in brackets, and its value begins with no
+-- brace
 abbrev pub gives_no_table : Key → KeyLine → Bool
 gives_no_table key found =
     bytes_eq found.name (table_of key)
-    && (is_none (table_on found.line) && not (list_any (λ byte. byte == 123) found.line))
+    && (is_none (table_on found.line) && not (goes_on_with 123 (value_on found.line)))
 
 -- that the table of a key is a table
 unfoldable pub table_expected : Key → List ℕ

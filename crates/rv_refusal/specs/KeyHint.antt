@@ -1,6 +1,8 @@
 -- What is said of a name that a description does not know where it stands.
-use Rattle.std.specs.Prelude.{ℕ, List, [], ◌∷◌, ◌++◌, codes, if◌then◌else◌, Option, Some, None}
-use Rattle.std.specs.{List.flat_map, List.list_any, Option.option_map_or, Str.bytes_eq}
+use Rattle.std.specs.Prelude.{ℕ, ◌==◌, Bool, not, List, [], ◌∷◌, ◌++◌, codes, if◌then◌else◌, length, take}
+use Rattle.std.specs.Prelude.{Option, Some, None}
+use Rattle.std.specs.{List.flat_map, List.list_any, List.prefix_len, Option.option_map_or, Option.option_or}
+use Rattle.std.specs.Str.{bytes_eq}
 use Rattle.rv_isa.specs.Key.{order}
 use Rattle.rv_refusal.specs.KeyLine.{KeyLine}
 use Rattle.rv_refusal.specs.KeyNames.{names_in, tables_from}
@@ -18,21 +20,43 @@ all_names kind table (name ∷ names) =
     codes "hint: the "
     ++ (kind ++ (table ++ (codes " are " ++ (each_name (name ∷ names) ++ codes "and no others\n"))))
 
--- the lines with all names that may stand there: the keys of a table, or those of no table and the tables
-unfoldable pub place_names : Option (List ℕ) → List ℕ
-place_names None =
+-- the line with all keys of a table, if it is one
+unfoldable pub table_keys : Option (List ℕ) → List ℕ
+table_keys None = []
+table_keys (Some table) = all_names (codes "keys of ") table (names_in (Some table) order)
+
+-- the lines with all keys of no table, and with all tables
+unfoldable pub top_names : List ℕ
+top_names =
     all_names (codes "keys of ") (codes "no table") (names_in None order)
     ++ all_names (codes "tables") [] (tables_from None order)
-place_names (Some table) = all_names (codes "keys of ") table (names_in (Some table) order)
+
+-- the byte is no dot
+abbrev pub is_undotted : ℕ → Bool
+is_undotted byte = not (byte == 46)
+
+-- what stands before the first dot of a name, if it has one
+unfoldable pub before_dot : List ℕ → Option (List ℕ)
+before_dot name =
+    let size = prefix_len is_undotted name in if size == length name then None else Some (take size name)
+
+-- the table that a name is given: the one that it stands in, or else the one before its dot
+abbrev pub given_table : KeyLine → Option (List ℕ)
+given_table found = option_or found.table (before_dot found.key)
+
+-- the line on the known names that an unknown one may stand for, or else that with all keys of its table
+abbrev pub near_or_keys : List (List ℕ) → KeyLine → List ℕ
+near_or_keys known found = or_else (spelling_line found.name known) (table_keys (given_table found))
 
 -- which key a name is in the table that it stands in
 unfoldable pub here_line : KeyLine → List ℕ
 here_line found =
     option_map_or (λ table. codes "hint: here it is " ++ (table ++ (codes "." ++ (found.key ++ codes "\n")))) found.table []
 
--- the lines on an unknown name by the keys that have it in another table, or else by the known names that it may stand for
+-- the lines on an unknown name by the keys that have it in another table, or else by the known names that it may stand
+-- for, or by all that may stand there
 unfoldable pub table_hint : List (List ℕ) → KeyLine → List (List ℕ) → List ℕ
-table_hint known found [] = or_else (spelling_line found.name known) (place_names found.table)
+table_hint known found [] = or_else (near_or_keys known found) top_names
 table_hint known found (key ∷ keys) = here_line found ++ names_line (key ∷ keys)
 
 -- which key a name is that stands in a table, and is known in none

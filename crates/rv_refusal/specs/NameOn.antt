@@ -1,5 +1,5 @@
 -- The names on the lines of a text in TOML: a table's in brackets, and a key before `=`. A name is of bare keys with
--- dots between them.
+-- dots between them, and may stand in quotes.
 use Rattle.std.specs.Prelude.{ℕ, ◌+◌, ◌==◌, ◌&&◌, ◌||◌, Bool, false, List, [], ◌∷◌}
 use Rattle.std.specs.Prelude.{drop, take, if◌then◌else◌, Option, Some, None}
 use Rattle.std.specs.{Char.is_ascii_alphanumeric, List.prefix_len, Option.option_or}
@@ -36,9 +36,25 @@ name_at before mark rest =
     let size = prefix_len is_name_byte rest in
     if goes_on_with mark (drop size rest) then Some (record { before = before; name = take size rest }) else None
 
+-- the name at the front of what follows a quote, which so many bytes of a line stand before, if a quote and a mark
+-- stand after it
+unfoldable pub quoted_at : ℕ → ℕ → ℕ → List ℕ → Option NameOn
+quoted_at before quote mark rest =
+    let size = prefix_len is_name_byte rest in
+    if begins_with quote (drop size rest) && goes_on_with mark (drop (size + 1) rest)
+    then Some (record { before = before; name = take size rest }) else None
+
+-- the name that stands at the front of what follows so many bytes of a line, in quotes or in none, if a mark stands after
+-- it
+unfoldable pub front_name : ℕ → ℕ → List ℕ → Option NameOn
+front_name before mark rest =
+    if begins_with 34 rest then quoted_at before 34 mark (drop 1 rest)
+    else (if begins_with 39 rest then quoted_at before 39 mark (drop 1 rest)
+    else name_at before mark rest)
+
 -- the same after blanks
 unfoldable pub name_after : ℕ → ℕ → List ℕ → Option NameOn
-name_after before mark text = name_at (before + blanks text) mark (drop (blanks text) text)
+name_after before mark text = front_name (before + blanks text) mark (drop (blanks text) text)
 
 -- the table that a line names: its name stands in brackets
 unfoldable pub table_on : List ℕ → Option NameOn
@@ -60,3 +76,8 @@ heading_on line = option_or (element_on line) (table_on line)
 -- the key that a line gives a value: its name stands before `=`
 abbrev pub key_on : List ℕ → Option NameOn
 key_on line = name_after 0 61 line
+
+-- what stands after the first `=` of a line; nothing on a line without one
+abbrev pub value_on : List ℕ → List ℕ
+value_on [] = []
+value_on (byte ∷ others) = if byte == 61 then others else value_on others

@@ -1,6 +1,6 @@
 -- The known names that are near an unknown one.
 use Rattle.std.specs.Prelude.{ℕ, List, [], ◌∷◌, ◌++◌, codes, map, take, Bool, ◌||◌, if◌then◌else◌, Option, Some, None}
-use Rattle.std.specs.{List.filter, List.flat_map, List.list_any, Option.option_map_or, Str.bytes_eq}
+use Rattle.std.specs.{List.filter, List.flat_map, Option.option_map_or, Str.bytes_eq}
 use Rattle.std.specs.Char.{to_ascii_lowercase}
 use Rattle.rv_asm.specs.Layout.{body_of}
 use Rattle.rv_asm.specs.Token.{Token}
@@ -29,12 +29,14 @@ names_line (first ∷ others) = codes "nearest: " ++ (first ++ (other_names othe
 abbrev pub in_small_letters : List ℕ → List ℕ
 in_small_letters name = map to_ascii_lowercase name
 
--- the line on an unknown name: that it is known in small letters, or else the known names that are nearest to it
+-- the line on an unknown name: that it is known in small letters, or else the known names that are nearest to it; a
+-- known one stands where it is not known
 unfoldable pub spelling_line : List ℕ → List (List ℕ) → List ℕ
 spelling_line name known =
-    if list_any (bytes_eq (in_small_letters name)) known
+    if is_one_of known name then []
+    else (if is_one_of known (in_small_letters name)
     then codes "names are written in small letters: " ++ (in_small_letters name ++ codes "\n")
-    else names_line (nearest name known)
+    else names_line (nearest name known))
 
 -- a directive of other assemblers, whose number is the exponent of a power of two
 abbrev pub aligns_to_power : List ℕ → Bool

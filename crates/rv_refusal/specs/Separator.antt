@@ -25,13 +25,15 @@ unfoldable pub separator_hint : List ℕ → List ℕ
 separator_hint line =
     if spoils_separator line then codes "hint: a line %% has nothing but these two bytes\n" else []
 
--- what is said of a line at fault of the assembly that so many lines of the job stand before, where it reads as one of a
--- description, and none do, or begins an entry of arrivals
+-- what is said of a line at fault of the assembly that so many lines of the job stand before, where it is a separator,
+-- which is the third one, reads as one of a description, and none do, or begins an entry of arrivals
 unfoldable pub part_hint : ℕ → List ℕ → List ℕ
 part_hint before line =
-    if before == 0 && reads_described line then codes "is a line %% missing?\n"
+    if bytes_eq (without_return line) (codes "%%")
+    then codes "hint: at most two lines %% stand in a job, between its description, its arrivals and its assembly\n"
+    else (if before == 0 && reads_described line then codes "is a line %% missing?\n"
     else (if is_some (entry_on line) then codes "hint: arrivals are the second of three parts, with a line %% after them\n"
-    else [])
+    else []))
 
 -- what is said of a line at fault of the assembly that so many lines of the job stand before, where it was to be a separator,
 -- or may be one of another part

@@ -1,15 +1,20 @@
-ghost use Rattle.std.specs.Prelude.{◌≡◌, ◌++◌, OnOk, [], map, option_map};
+ghost use Rattle.std.specs.Prelude.{◌≡◌, ◌++◌, IfOk, OnOk, [], map, option_map};
 ghost use Rattle.std.specs.Option.{option_map_or};
 ghost use Rattle.rv_job.specs.ReadParts.{parts_in};
-ghost use Rattle.rv_refusal.specs.Arrivals.{arrival_expected, arrival_names, arrivals_lines, entry_line_text};
-ghost use Rattle.rv_refusal.specs.Arrivals.{entry_lines, entry_text, field_line, field_lines, field_name};
-ghost use Rattle.rv_refusal.specs.Arrivals.{heading_lines, in_entry_text, line_of_field, line_of_list};
-ghost use Rattle.rv_refusal.specs.Arrivals.{list_lines, name_hint, part_lines, unknown_line, unknown_lines};
+ghost use Rattle.rv_refusal.specs.Arrivals.{arrival_expected, arrival_names, arrivals_lines, description_line};
+ghost use Rattle.rv_refusal.specs.Arrivals.{entry_line_text, entry_lines, entry_text, field_line, field_lines};
+ghost use Rattle.rv_refusal.specs.Arrivals.{field_name, given_lines, heading_lines, in_entry_text, lacking_lines};
+ghost use Rattle.rv_refusal.specs.Arrivals.{line_of_entry, line_of_field, line_of_list, list_lines, missing_line};
+ghost use Rattle.rv_refusal.specs.Arrivals.{missing_lines, name_line, part_lines, unfound_lines, unknown_line};
+ghost use Rattle.rv_refusal.specs.Arrivals.{unknown_lines};
 ghost use Rattle.rv_refusal.specs.EntryLine.{entry_line};
+ghost use Rattle.rv_refusal.specs.KeyNames.{key_names};
+ghost use Rattle.rv_refusal.specs.NameSet.{is_one_of};
 
 use crate::caret::add_marked_line;
 use crate::entry_line::{EntryLine, Sought, first_sought};
 use crate::key_line::is_among;
+use crate::key_names::key_names;
 use crate::lines::line_feeds;
 use crate::near::add_spelling_line;
 use crate::place::add_line_place;
@@ -78,32 +83,85 @@ fn field_line(field: Field) -> &'static [u8]
     }
 }
 
-// The line of a field of an entry, or else the one on which the entry begins.
+// The line of a field of an entry.
 #[tactic(auto, unfolding(crate::specs::Arrivals::line_of_field))]
 fn line_of_field(field: Field, entry: usize, part: &[u8]) -> Option<EntryLine<'_>>
     ensures { option_map entry_line result ≡ line_of_field field entry part.entry.now }
 {
-    match first_sought(Sought::Field(entry, field_name(field)), part) {
-        Some(found) => Some(found),
-        None => first_sought(Sought::Entry(entry), part),
-    }
+    first_sought(Sought::Field(entry, field_name(field)), part)
 }
 
-// Appends the line of a field of an entry, or else the entry's number.
-fn add_line_of_field(
+// The line on which an entry begins.
+#[tactic(auto, unfolding(crate::specs::Arrivals::line_of_entry))]
+fn line_of_entry(entry: usize, part: &[u8]) -> Option<EntryLine<'_>>
+    ensures { option_map entry_line result ≡ line_of_entry entry part.entry.now }
+{
+    first_sought(Sought::Entry(entry), part)
+}
+
+// Appends a line that gives a field a value, and which values the field takes.
+#[tactic(auto, unfolding(crate::specs::Arrivals::given_lines))]
+fn add_given_lines(
+    out: &mut Vec<u8>,
+    before: usize,
+    field: Field,
+    found: EntryLine<'_>,
+) -> Result<(), AllocError>
+    ensures { OnOk result (out.new.items ≡ out.old.items ++ given_lines before field (entry_line found.entry)) }
+{
+    add_entry_line(out, before, found)?;
+    add_text(out, field_line(field))
+}
+
+// Appends that an entry has no line of a field.
+#[tactic(auto, unfolding(crate::specs::Arrivals::missing_line))]
+fn add_missing_line(out: &mut Vec<u8>, field: Field) -> Result<(), AllocError>
+    ensures { OnOk result (out.new.items ≡ out.old.items ++ missing_line field) }
+{
+    add_all(
+        out,
+        &[b"hint: this entry has no key ", field_name(field), b"\n"],
+    )
+}
+
+// Appends the line on which an entry without a field begins, and which values the field takes.
+#[tactic(auto, unfolding(crate::specs::Arrivals::lacking_lines))]
+fn add_lacking_lines(
+    out: &mut Vec<u8>,
+    before: usize,
+    field: Field,
+    found: EntryLine<'_>,
+) -> Result<(), AllocError>
+    ensures { OnOk result (out.new.items ≡ out.old.items ++ lacking_lines before field (entry_line found.entry)) }
+{
+    add_entry_line(out, before, found)?;
+    add_text(out, field_line(field))?;
+    add_missing_line(out, field)
+}
+
+// Appends an entry that no line is found of, and which values a field of it takes.
+#[tactic(auto, unfolding(crate::specs::Arrivals::unfound_lines))]
+fn add_unfound_lines(out: &mut Vec<u8>, entry: usize, field: Field) -> Result<(), AllocError>
+    ensures { OnOk result (out.new.items ≡ out.old.items ++ unfound_lines entry field) }
+{
+    add_entry(out, entry)?;
+    add_text(out, field_line(field))
+}
+
+// Appends why arrivals are refused by a field of an entry that has no line of its own.
+#[tactic(auto, unfolding(crate::specs::Arrivals::missing_lines))]
+fn add_missing_lines(
     out: &mut Vec<u8>,
     before: usize,
     part: &[u8],
     entry: usize,
     field: Field,
 ) -> Result<(), AllocError>
-    ensures { OnOk result (out.new.items
-        ≡ out.old.items
-        ++ option_map_or (entry_line_text before) (line_of_field field entry part.now) (entry_text entry)) }
+    ensures { OnOk result (out.new.items ≡ out.old.items ++ missing_lines before part.now entry field) }
 {
-    match line_of_field(field, entry, part) {
-        Some(found) => add_entry_line(out, before, found),
-        None => add_entry(out, entry),
+    match line_of_entry(entry, part) {
+        Some(found) => add_lacking_lines(out, before, field, found),
+        None => add_unfound_lines(out, entry, field),
     }
 }
 
@@ -118,8 +176,10 @@ fn add_field_lines(
 ) -> Result<(), AllocError>
     ensures { OnOk result (out.new.items ≡ out.old.items ++ field_lines before part.now entry field) }
 {
-    add_line_of_field(out, before, part, entry, field)?;
-    add_text(out, field_line(field))
+    match line_of_field(field, entry, part) {
+        Some(found) => add_given_lines(out, before, field, found),
+        None => add_missing_lines(out, before, part, entry, field),
+    }
 }
 
 // The line that gives `arrival` no array: its heading, which has one bracket, or else the key.
@@ -203,17 +263,34 @@ fn arrival_names() -> &'static [&'static [u8]]
     &NAMES
 }
 
-// Appends the known names that an unknown one may stand for; a known one stands where it is not known.
-fn add_name_hint(alloc: Global, out: &mut Vec<u8>, name: &[u8]) -> Result<(), AllocError>
-    ensures { OnOk result (out.new.items ≡ out.old.items ++ name_hint name.now) }
+// That a description stands in the place of arrivals.
+#[tactic(auto, unfolding(crate::specs::Arrivals::description_line))]
+fn description_line() -> &'static [u8]
+    ensures { result.now ≡ description_line }
 {
-    if is_among(name, arrival_names()) {
-        return Ok(());
+    b"hint: a description is the first of three parts, with no line %% before it\n"
+}
+
+// Whether a name is that of a key or a table of a description.
+fn is_described(alloc: Global, name: &[u8]) -> Result<bool, AllocError>
+    ensures { IfOk result (λ is. is ≡ is_one_of key_names name.now) }
+{
+    let keys = key_names(alloc)?;
+    Ok(is_among(name, keys.as_slice()))
+}
+
+// Appends what is said of an unknown name.
+#[tactic(auto, unfolding(crate::specs::Arrivals::name_line))]
+fn add_name_line(alloc: Global, out: &mut Vec<u8>, name: &[u8]) -> Result<(), AllocError>
+    ensures { OnOk result (out.new.items ≡ out.old.items ++ name_line name.now) }
+{
+    if is_described(alloc, name)? {
+        return add_text(out, description_line());
     }
     add_spelling_line(alloc, out, name, arrival_names())
 }
 
-// Appends a line with an unknown name, what was expected there, and the known names that it may stand for.
+// Appends a line with an unknown name, what was expected there, and what is said of the name.
 #[tactic(auto, unfolding(crate::specs::Arrivals::unknown_line))]
 fn add_unknown_line(
     alloc: Global,
@@ -225,7 +302,7 @@ fn add_unknown_line(
 {
     add_entry_line(out, before, found)?;
     add_text(out, arrival_expected())?;
-    add_name_hint(alloc, out, found.name)
+    add_name_line(alloc, out, found.name)
 }
 
 // Appends the first line of a list of arrivals with a name that is not known there.

@@ -1,11 +1,11 @@
-ghost use Rattle.std.specs.Prelude.{◌≡◌, ◌&&◌, ◌++◌, ◌==◌, IfOk, OnOk, is_none, map, not, option_map};
-ghost use Rattle.std.specs.{List.list_any, Str.bytes_eq};
+ghost use Rattle.std.specs.Prelude.{◌≡◌, ◌&&◌, ◌++◌, IfOk, OnOk, is_none, map, not, option_map};
+ghost use Rattle.std.specs.Str.{bytes_eq};
 ghost use Rattle.rv_refusal.specs.Described.{array_line, description_lines, key_at, key_expected};
 ghost use Rattle.rv_refusal.specs.Described.{key_line_text, known_expected, line_of_key, line_of_name};
 ghost use Rattle.rv_refusal.specs.Described.{table_expected, table_of, unknown_among, unknown_line};
 ghost use Rattle.rv_refusal.specs.Described.{unknown_lines, value_lines};
 ghost use Rattle.rv_refusal.specs.KeyLine.{key_line};
-ghost use Rattle.rv_refusal.specs.NameOn.{table_on};
+ghost use Rattle.rv_refusal.specs.NameOn.{goes_on_with, table_on, value_on};
 
 use crate::caret::add_marked_line;
 use crate::entry_line::{Sought, first_sought};
@@ -13,7 +13,7 @@ use crate::key_default::add_values_line;
 use crate::key_hint::add_key_hint;
 use crate::key_line::{KeyLine, Wanted, first_named, full_name};
 use crate::key_names::{key_names, keys_named, text_of};
-use crate::name_on::table_on;
+use crate::name_on::{goes_on_with, table_on, value_on};
 use crate::place::add_line_place;
 use crate::text::{add_all, add_text};
 use crate::toml_fault::add_no_toml;
@@ -94,9 +94,9 @@ fn line_of_key(alloc: Global, key: Key, part: &[u8]) -> Result<Option<KeyLine<'_
 // Whether a line gives the table of a key a value that is none.
 fn gives_no_table(key: Key, name: &[u8], line: &[u8]) -> bool
     ensures { result ≡ (bytes_eq name.now (table_of key)
-        && (is_none (table_on line.now) && not (list_any (λ byte. byte == 123) line.now))) }
+        && (is_none (table_on line.now) && not (goes_on_with 123 (value_on line.now)))) }
 {
-    name == table_of(key) && table_on(line).is_none() && !line.contains(&b'{')
+    name == table_of(key) && table_on(line).is_none() && !goes_on_with(b'{', value_on(line))
 }
 
 // Appends that the table of a key is a table.

@@ -1,10 +1,11 @@
-ghost use Rattle.std.specs.Prelude.{◌≡◌, ◌++◌, [], IfOk, None, OnOk, codes, map, option_copied};
+ghost use Rattle.std.specs.Prelude.{◌≡◌, ◌≤◌, ◌++◌, [], IfOk, None, OnOk, codes, length, map, option_copied};
+ghost use Rattle.std.specs.List.{prefix_len};
 ghost use Rattle.rv_isa.specs.Key.{order};
-ghost use Rattle.rv_refusal.specs.KeyHint.{all_names, arrivals_line, each_name, here_line, key_hint};
-ghost use Rattle.rv_refusal.specs.KeyHint.{outside_line, place_names, table_hint};
+ghost use Rattle.rv_refusal.specs.KeyHint.{all_names, arrivals_line, before_dot, each_name, given_table, here_line};
+ghost use Rattle.rv_refusal.specs.KeyHint.{is_undotted, key_hint, near_or_keys, outside_line, table_hint};
+ghost use Rattle.rv_refusal.specs.KeyHint.{table_keys, top_names};
 ghost use Rattle.rv_refusal.specs.KeyLine.{key_line};
 ghost use Rattle.rv_refusal.specs.KeyNames.{names_in, tables_from};
-ghost use Rattle.rv_refusal.specs.Near.{spelling_line};
 ghost use Rattle.rv_refusal.specs.OrElse.{or_else};
 
 use crate::key_line::{KeyLine, full_name, is_among};
@@ -64,41 +65,90 @@ fn add_all_keys(
     add_all_names(out, b"keys of ", called, names.as_slice())
 }
 
-// Appends the lines with all names that may stand in a table, or in none.
-#[tactic(auto, unfolding(crate::specs::KeyHint::place_names))]
-fn add_place_names(alloc: Global, out: &mut Vec<u8>, table: Option<&[u8]>) -> Result<(), AllocError>
-    ensures { OnOk result (out.new.items ≡ out.old.items ++ place_names (option_copied table.entry)) }
+// Appends the line with all keys of a table, if it is one.
+#[tactic(auto, unfolding(crate::specs::KeyHint::table_keys))]
+fn add_table_keys(alloc: Global, out: &mut Vec<u8>, table: Option<&[u8]>) -> Result<(), AllocError>
+    ensures { OnOk result (out.new.items ≡ out.old.items ++ table_keys (option_copied table.entry)) }
 {
     if let Some(name) = table {
         return add_all_keys(alloc, out, table, name);
     }
+    Ok(())
+}
+
+// Appends the lines with all keys of no table, and with all tables.
+#[tactic(auto, unfolding(crate::specs::KeyHint::top_names))]
+fn add_top_names(alloc: Global, out: &mut Vec<u8>) -> Result<(), AllocError>
+    ensures { OnOk result (out.new.items ≡ out.old.items ++ top_names) }
+{
     add_all_keys(alloc, out, None, b"no table")?;
     add_all_tables(alloc, out)
 }
 
-// Appends a line, or else those with all names that may stand in a table, or in none.
-fn add_or_place_names(
-    alloc: Global,
-    out: &mut Vec<u8>,
-    table: Option<&[u8]>,
-    line: &[u8],
-) -> Result<(), AllocError>
-    ensures { OnOk result (out.new.items ≡ out.old.items ++ or_else line.now (place_names (option_copied table.entry))) }
+// Appends lines, or else those with all keys of no table, and with all tables.
+fn add_or_top_names(alloc: Global, out: &mut Vec<u8>, lines: &[u8]) -> Result<(), AllocError>
+    ensures { OnOk result (out.new.items ≡ out.old.items ++ or_else lines.now top_names) }
 {
-    if line.is_empty() {
-        return add_place_names(alloc, out, table);
+    if lines.is_empty() {
+        return add_top_names(alloc, out);
     }
-    add_text(out, line)
+    add_text(out, lines)
 }
 
-// The line on the known names that an unknown one may stand for, empty where there are none.
-fn spelling(alloc: Global, known: &[&[u8]], found: KeyLine<'_>) -> Result<Vec<u8>, AllocError>
+fn is_undotted(byte: u8) -> bool
+    ensures { result ≡ is_undotted byte }
+{
+    byte != b'.'
+}
+
+// How many bytes of a name stand before its first dot.
+fn size_to_dot(name: &[u8]) -> usize
+    ensures count { result ≡ prefix_len is_undotted name.now }
+    ensures in_range { result ≤ length name.now }
+{
+    for (count, byte) in name.iter().enumerate() {
+        if !is_undotted(*byte) {
+            return count;
+        }
+    }
+    name.len()
+}
+
+// What stands before the first dot of a name, if it has one.
+#[tactic(auto, unfolding(crate::specs::KeyHint::before_dot))]
+fn before_dot(name: &[u8]) -> Option<&[u8]>
+    ensures { option_copied result ≡ before_dot name.entry.now }
+{
+    let size = size_to_dot(name);
+    if size == name.len() {
+        return None;
+    }
+    let (table, _) = name.split_at(size);
+    Some(table)
+}
+
+// The table that a name is given: the one that it stands in, or else the one before its dot.
+fn given_table<'a>(found: KeyLine<'a>) -> Option<&'a [u8]>
+    ensures { option_copied result ≡ given_table (key_line found.entry) }
+{
+    match found.table {
+        Some(table) => Some(table),
+        None => before_dot(found.name),
+    }
+}
+
+// The line on the known names that an unknown one may stand for, or else that with all keys of its table, empty where
+// there are none.
+fn near_or_keys(alloc: Global, known: &[&[u8]], found: KeyLine<'_>) -> Result<Vec<u8>, AllocError>
     ensures { IfOk result (λ line. line.items
-        ≡ spelling_line (key_line found.entry).name (map (λ name. name.now) known.now)) }
+        ≡ near_or_keys (map (λ name. name.now) known.now) (key_line found.entry)) }
 {
     let name = full_name(alloc, found)?;
     let mut line = Vec::new(alloc);
     add_spelling_line(alloc, &mut line, name.as_slice(), known)?;
+    if line.is_empty() {
+        add_table_keys(alloc, &mut line, given_table(found))?;
+    }
     Ok(line)
 }
 
@@ -114,7 +164,7 @@ fn add_here_line(out: &mut Vec<u8>, found: KeyLine<'_>) -> Result<(), AllocError
 }
 
 // Appends the lines on an unknown name by the keys that have it in another table, or else by the known names that it may
-// stand for.
+// stand for, or by all that may stand there.
 #[tactic(auto, unfolding(crate::specs::KeyHint::table_hint))]
 fn add_table_hint(
     alloc: Global,
@@ -127,8 +177,8 @@ fn add_table_hint(
         (key_line found.entry) (map (λ name. name.now) keys.now)) }
 {
     if keys.is_empty() {
-        let line = spelling(alloc, known, found)?;
-        return add_or_place_names(alloc, out, found.table, line.as_slice());
+        let lines = near_or_keys(alloc, known, found)?;
+        return add_or_top_names(alloc, out, lines.as_slice());
     }
     add_here_line(out, found)?;
     add_names_line(out, keys)

@@ -1,8 +1,9 @@
 ghost use Rattle.std.specs.Prelude.{◌≡◌, ◌≤◌, ◌^◌, length, option_map};
 ghost use Rattle.std.specs.List.{prefix_len};
 ghost use Rattle.rv_refusal.specs.HeldName.{name_in};
-ghost use Rattle.rv_refusal.specs.NameOn.{begins_with, blanks, element_on, goes_on_with, heading_on};
-ghost use Rattle.rv_refusal.specs.NameOn.{is_blank, is_name_byte, key_on, name_after, name_at, table_on};
+ghost use Rattle.rv_refusal.specs.NameOn.{begins_with, blanks, element_on, front_name, goes_on_with, heading_on};
+ghost use Rattle.rv_refusal.specs.NameOn.{is_blank, is_name_byte, key_on, name_after, name_at, quoted_at, table_on};
+ghost use Rattle.rv_refusal.specs.NameOn.{value_on};
 
 /// A name on a line, and how many bytes stand before it.
 #[derive(Clone, Copy)]
@@ -80,6 +81,42 @@ fn name_at(before: usize, mark: u8, rest: &[u8]) -> Option<NameOn<'_>>
     }
 }
 
+// The name at the front of what follows a quote, which so many bytes of a line stand before, if a quote and a mark
+// stand after it.
+#[tactic(auto, unfolding(crate::specs::NameOn::quoted_at))]
+fn quoted_at(before: usize, quote: u8, mark: u8, rest: &[u8]) -> Option<NameOn<'_>>
+    ensures { option_map name_in result ≡ quoted_at before quote mark rest.entry.now }
+{
+    let size = name_size(rest);
+    let (name, others) = rest.split_at(size);
+    if !begins_with(quote, others) {
+        return None;
+    }
+    let (_, behind) = rest.split_at(size + 1);
+    if goes_on_with(mark, behind) {
+        Some(NameOn { before, name })
+    } else {
+        None
+    }
+}
+
+// The name that stands at the front of what follows so many bytes of a line, in quotes or in none, if a mark stands
+// after it.
+#[tactic(auto, unfolding(crate::specs::NameOn::front_name))]
+fn front_name(before: usize, mark: u8, rest: &[u8]) -> Option<NameOn<'_>>
+    ensures { option_map name_in result ≡ front_name before mark rest.entry.now }
+{
+    if begins_with(b'"', rest) {
+        let (_, quoted) = rest.split_at(1);
+        return quoted_at(before, b'"', mark, quoted);
+    }
+    if begins_with(b'\'', rest) {
+        let (_, quoted) = rest.split_at(1);
+        return quoted_at(before, b'\'', mark, quoted);
+    }
+    name_at(before, mark, rest)
+}
+
 /// The name that stands at the front of a text after blanks, which follows so many bytes of a line, if a mark stands after it.
 #[tactic(auto, unfolding(crate::specs::NameOn::name_after))]
 pub(crate) fn name_after(before: usize, mark: u8, text: &[u8]) -> Option<NameOn<'_>>
@@ -88,7 +125,7 @@ pub(crate) fn name_after(before: usize, mark: u8, text: &[u8]) -> Option<NameOn<
 {
     let blank = blanks(text);
     let (_, rest) = text.split_at(blank);
-    name_at(before + blank, mark, rest)
+    front_name(before + blank, mark, rest)
 }
 
 /// The table that a line names: its name stands in brackets.
@@ -139,4 +176,18 @@ pub(crate) fn key_on(line: &[u8]) -> Option<NameOn<'_>>
     ensures { option_map name_in result ≡ key_on line.entry.now }
 {
     name_after(0, b'=', line)
+}
+
+/// What stands after the first `=` of a line; nothing on a line without one.
+pub(crate) fn value_on(line: &[u8]) -> &[u8]
+    ensures { result.now ≡ value_on line.entry.now }
+{
+    let mut rest = line;
+    while let [byte, others @ ..] = rest {
+        if *byte == b'=' {
+            return others;
+        }
+        rest = others;
+    }
+    b""
 }

@@ -81,7 +81,8 @@ pub(crate) fn add_nearest(
     add_names_line(out, names.as_slice())
 }
 
-/// Appends the line on an unknown name: that it is known in small letters, or else the known names that are nearest to it.
+/// Appends the line on an unknown name: that it is known in small letters, or else the known names that are nearest to
+/// it; nothing of a known one.
 #[tactic(auto, unfolding(crate::specs::Near::spelling_line))]
 pub(crate) fn add_spelling_line(
     alloc: Global,
@@ -89,8 +90,12 @@ pub(crate) fn add_spelling_line(
     name: &[u8],
     known: &[&[u8]],
 ) -> Result<(), AllocError>
-    ensures { OnOk result (out.new.items ≡ out.old.items ++ spelling_line name.now (map (λ other. other.now) known.now)) }
+    ensures { OnOk result (out.new.items
+        ≡ out.old.items ++ spelling_line name.now (map (λ other. other.now) known.now)) }
 {
+    if is_among(name, known) {
+        return Ok(());
+    }
     let small = name.to_ascii_lowercase(alloc)?;
     if is_among(small.as_slice(), known) {
         return add_all(

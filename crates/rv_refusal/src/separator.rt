@@ -51,11 +51,18 @@ pub(crate) fn add_separator_hint(out: &mut Vec<u8>, line: &[u8]) -> Result<(), A
     Ok(())
 }
 
-// Appends what is said of a line at fault of the assembly that may be one of a description or of arrivals.
+// Appends what is said of a line at fault of the assembly that is the third separator, or may be a line of a
+// description or of arrivals.
 #[tactic(auto, unfolding(crate::specs::Separator::part_hint))]
 fn add_part_hint(out: &mut Vec<u8>, before: usize, line: &[u8]) -> Result<(), AllocError>
     ensures { OnOk result (out.new.items ≡ out.old.items ++ part_hint before line.now) }
 {
+    if without_return(line) == b"%%".as_slice() {
+        return add_text(
+            out,
+            b"hint: at most two lines %% stand in a job, between its description, its arrivals and its assembly\n",
+        );
+    }
     if before == 0 && reads_described(line) {
         return add_text(out, b"is a line %% missing?\n");
     }
