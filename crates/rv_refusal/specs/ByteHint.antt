@@ -1,5 +1,5 @@
 -- What to write in place of bytes that are no token.
-use Rattle.std.specs.Prelude.{ℕ, ◌==◌, ◌&&◌, ◌||◌, Bool, List, [], codes, if◌then◌else◌, is_some, length, nat_lt}
+use Rattle.std.specs.Prelude.{ℕ, ◌==◌, ◌&&◌, ◌||◌, Bool, not, List, [], codes, if◌then◌else◌, is_some, length, nat_lt}
 use Rattle.std.specs.{Char.is_ascii_digit, List.list_any, List.slice_get, Option.option_map_or}
 use Rattle.rv_refusal.specs.Caret.{token_place}
 use Rattle.rv_refusal.specs.NameOn.{goes_on_with, key_on}
@@ -8,27 +8,36 @@ use Rattle.rv_refusal.specs.NameOn.{goes_on_with, key_on}
 abbrev pub is_mark : List ℕ → ℕ → Bool
 is_mark marks byte = list_any (λ mark. mark == byte) marks
 
--- what to write in place of an operator, a bracket, a quote or a sign of other assemblers
-unfoldable pub mark_hint : ℕ → List ℕ
-mark_hint byte =
+-- a per cent sign stands there before a name with something in parentheses
+abbrev pub is_relocation : List ℕ → ℕ → Bool
+is_relocation line byte = byte == 37 && is_mark line 40
+
+-- a bracket stands there, and no directive or number with a dot on its line
+abbrev pub is_bracket : List ℕ → ℕ → Bool
+is_bracket line byte = is_mark (codes "[{") byte && not (is_mark line 46)
+
+-- what to write in place of an operator, a bracket, a quote or a sign of other assemblers on a line
+unfoldable pub mark_hint : List ℕ → ℕ → List ℕ
+mark_hint line byte =
     if is_mark (codes ";/") byte then codes "hint: a comment begins with #, and a line has one statement\n"
-    else (if byte == 39 then codes "hint: a character is written as its number, as 65 for A\n"
-    else (if byte == 37 then codes "hint: la loads the address of a symbol, without %hi and %lo\n"
+    else (if byte == 39
+    then codes "hint: a character is written as its number, as 65 for A, and a string in double quotes\n"
+    else (if is_relocation line byte then codes "hint: la loads the address of a symbol, without %hi and %lo\n"
     else (if byte == 34 then codes "hint: a string ends on its line, and after \\ stands one of n t \\ \" 0\n"
     else (if is_mark (codes "*<>&|^~!") byte then codes "hint: a symbol and a number may be added or subtracted, as in table+4\n"
     else (if byte == 61 then codes "hint: .equ gives a name its number, as in .equ size, 64\n"
-    else (if is_mark (codes "[{") byte then codes "hint: an address is written as offset(register), as in 8(sp)\n"
+    else (if is_bracket line byte then codes "hint: an address is written as offset(register), as in 8(sp)\n"
     else (if byte == 64 then codes "hint: a line of .type may be left out, and a comment begins with #\n"
     else [])))))))
 
--- what to write in place of what begins with a byte and is no token
-unfoldable pub byte_hint : ℕ → List ℕ
-byte_hint byte =
+-- what to write in place of what begins with a byte of a line and is no token
+unfoldable pub byte_hint : List ℕ → ℕ → List ℕ
+byte_hint line byte =
     if is_ascii_digit byte
     then codes "hint: a number is decimal, or has 0x or 0b before it, and is at most 4294967295; no name begins with a digit\n"
     else (if nat_lt 127 byte
     then codes "hint: this byte is not ASCII, as a blank, a quote or a minus of a word processor is none\n"
-    else mark_hint byte)
+    else mark_hint line byte)
 
 -- a line reads as a separator or as a heading of a table, or as one with a key where the assembly begins on the job's
 -- first line
@@ -40,4 +49,4 @@ reads_as_part before line =
 unfoldable pub bytes_hint : ℕ → List ℕ → List ℕ
 bytes_hint before line =
     if reads_as_part before line then []
-    else option_map_or byte_hint (slice_get line (token_place line (length line))) []
+    else option_map_or (byte_hint line) (slice_get line (token_place line (length line))) []

@@ -105,19 +105,53 @@ abbrev pub accesses_memory : List ℕ → Bool
 accesses_memory name =
     is_one_of (codes "lb" ∷ codes "lh" ∷ codes "lw" ∷ codes "lbu" ∷ codes "lhu" ∷ codes "sb" ∷ codes "sh" ∷ codes "sw" ∷ []) name
 
+-- an instruction has an offset with a register in parentheses
+abbrev pub takes_offset : List ℕ → Bool
+takes_offset name = accesses_memory name || bytes_eq name (codes "jalr")
+
+-- a name stands after a number, without the parenthesis between them
+abbrev pub lacks_opening : List Token → Bool
+lacks_opening (token.Number number ∷ token.Name name ∷ rest) = true
+lacks_opening (token.Minus ∷ token.Number number ∷ token.Name name ∷ rest) = true
+lacks_opening _ = false
+
+-- the parenthesis after a name is missing at the end
+abbrev pub lacks_closing : List Token → Bool
+lacks_closing (token.LeftParenthesis ∷ token.Name name ∷ []) = true
+lacks_closing (token.Number number ∷ token.LeftParenthesis ∷ token.Name name ∷ []) = true
+lacks_closing _ = false
+
+-- an offset with a register lacks a parenthesis
+abbrev pub lacks_parenthesis : List ℕ → List Token → Bool
+lacks_parenthesis name operand = takes_offset name && (lacks_opening operand || lacks_closing operand)
+
+-- how an offset with a register is written
+unfoldable pub offset_hint : List ℕ
+offset_hint = codes "hint: an address is written as offset(register), as in 8(sp)\n"
+
 -- what to write in place of a name where an address is to stand
 unfoldable pub address_hint : List ℕ → List ℕ
 address_hint name =
-    if is_one_of registers name then codes "hint: an address is written as offset(register), as in 8(sp)\n"
+    if is_one_of registers name then offset_hint
     else codes "hint: an address is in a register: la t0, symbol loads it, and 0(t0) is the word there\n"
+
+-- what to write in place of an operand with tokens, from its first one on
+unfoldable pub written_hint : List ℕ → List Token → List ℕ
+written_hint name operand =
+    if lacks_parenthesis name operand then offset_hint
+    else (if lacks_comma operand then codes "hint: a comma stands between two operands\n"
+    else (if begins_with_number operand then with_number name
+    else (if accesses_memory name then option_map_or address_hint (first_name operand) []
+    else [])))
+
+-- that no operand stands after a comma
+unfoldable pub nothing_hint : List ℕ
+nothing_hint = codes "hint: no operand stands after the last comma; what stands after # is a comment\n"
 
 -- what to write in place of an operand, from its first token on
 unfoldable pub operand_hint : List ℕ → List Token → List ℕ
-operand_hint name operand =
-    if lacks_comma operand then codes "hint: a comma stands between two operands\n"
-    else (if begins_with_number operand then with_number name
-    else (if accesses_memory name then option_map_or address_hint (first_name operand) []
-    else []))
+operand_hint name [] = nothing_hint
+operand_hint name (first ∷ rest) = written_hint name (first ∷ rest)
 
 -- what to write in place of the operand at fault
 abbrev pub operands_hint : (List ℕ → Bool) → List Token → List ℕ

@@ -1,5 +1,6 @@
 ghost use Rattle.std.specs.Prelude.{◌≡◌};
-ghost use Rattle.rv_refusal.specs.ByteHint.{byte_hint, bytes_hint, is_mark, mark_hint, reads_as_part};
+ghost use Rattle.rv_refusal.specs.ByteHint.{byte_hint, bytes_hint, is_bracket, is_mark, is_relocation, mark_hint};
+ghost use Rattle.rv_refusal.specs.ByteHint.{reads_as_part};
 
 use crate::caret::token_place;
 use crate::name_on::{goes_on_with, key_on};
@@ -10,18 +11,32 @@ fn is_mark(marks: &[u8], byte: u8) -> bool
     marks.contains(&byte)
 }
 
-// What to write in place of an operator, a bracket, a quote or a sign of other assemblers.
+// Whether a per cent sign of a line stands before a name with something in parentheses.
+fn is_relocation(line: &[u8], byte: u8) -> bool
+    ensures { result ≡ is_relocation line.now byte }
+{
+    byte == b'%' && is_mark(line, b'(')
+}
+
+// Whether a byte is a bracket, and no directive or number with a dot stands on its line.
+fn is_bracket(line: &[u8], byte: u8) -> bool
+    ensures { result ≡ is_bracket line.now byte }
+{
+    is_mark(b"[{", byte) && !is_mark(line, b'.')
+}
+
+// What to write in place of an operator, a bracket, a quote or a sign of other assemblers on a line.
 #[tactic(auto, unfolding(crate::specs::ByteHint::mark_hint))]
-fn mark_hint(byte: u8) -> &'static [u8]
-    ensures { result.now ≡ mark_hint byte }
+fn mark_hint(line: &[u8], byte: u8) -> &'static [u8]
+    ensures { result.now ≡ mark_hint line.now byte }
 {
     if is_mark(b";/", byte) {
         return b"hint: a comment begins with #, and a line has one statement\n";
     }
     if byte == b'\'' {
-        return b"hint: a character is written as its number, as 65 for A\n";
+        return b"hint: a character is written as its number, as 65 for A, and a string in double quotes\n";
     }
-    if byte == b'%' {
+    if is_relocation(line, byte) {
         return b"hint: la loads the address of a symbol, without %hi and %lo\n";
     }
     if byte == b'"' {
@@ -33,7 +48,7 @@ fn mark_hint(byte: u8) -> &'static [u8]
     if byte == b'=' {
         return b"hint: .equ gives a name its number, as in .equ size, 64\n";
     }
-    if is_mark(b"[{", byte) {
+    if is_bracket(line, byte) {
         return b"hint: an address is written as offset(register), as in 8(sp)\n";
     }
     if byte == b'@' {
@@ -42,10 +57,10 @@ fn mark_hint(byte: u8) -> &'static [u8]
     b""
 }
 
-// What to write in place of what begins with a byte and is no token.
+// What to write in place of what begins with a byte of a line and is no token.
 #[tactic(auto, unfolding(crate::specs::ByteHint::byte_hint))]
-fn byte_hint(byte: u8) -> &'static [u8]
-    ensures { result.now ≡ byte_hint byte }
+fn byte_hint(line: &[u8], byte: u8) -> &'static [u8]
+    ensures { result.now ≡ byte_hint line.now byte }
 {
     if byte.is_ascii_digit() {
         return b"hint: a number is decimal, or has 0x or 0b before it, and is at most 4294967295; no name begins with a digit\n";
@@ -53,7 +68,7 @@ fn byte_hint(byte: u8) -> &'static [u8]
     if byte > 127 {
         return b"hint: this byte is not ASCII, as a blank, a quote or a minus of a word processor is none\n";
     }
-    mark_hint(byte)
+    mark_hint(line, byte)
 }
 
 // Whether a line reads as a separator or as a heading of a table, or as one with a key where the assembly begins on the
@@ -74,7 +89,7 @@ pub(crate) fn bytes_hint(before: usize, line: &[u8]) -> &'static [u8]
         return b"";
     }
     match line.get(token_place(line, line.len())) {
-        Some(byte) => byte_hint(*byte),
+        Some(byte) => byte_hint(line, *byte),
         None => b"",
     }
 }

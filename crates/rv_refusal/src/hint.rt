@@ -2,9 +2,10 @@ ghost use Rattle.std.specs.Prelude.{◌≡◌, ◌++◌, IfOk, OnOk, map};
 ghost use Rattle.rv_asm.specs.Read.{token_of, tokens_in};
 ghost use Rattle.rv_refusal.specs.Hint.{accesses_memory, address_hint, begins_with_number, body_hint};
 ghost use Rattle.rv_refusal.specs.Hint.{directive_hint, double_directives, hint, idle_directives};
-ghost use Rattle.rv_refusal.specs.Hint.{is_known_otherwise, is_word, label_hint, lacks_comma, line_directives};
-ghost use Rattle.rv_refusal.specs.Hint.{name_hint, operand_hint, operands_hint, range_hint, reads_as_label};
-ghost use Rattle.rv_refusal.specs.Hint.{register_hint, statement_hint, with_number};
+ghost use Rattle.rv_refusal.specs.Hint.{is_known_otherwise, is_word, label_hint, lacks_closing, lacks_comma};
+ghost use Rattle.rv_refusal.specs.Hint.{lacks_opening, lacks_parenthesis, line_directives, name_hint, nothing_hint};
+ghost use Rattle.rv_refusal.specs.Hint.{offset_hint, operand_hint, operands_hint, range_hint, reads_as_label};
+ghost use Rattle.rv_refusal.specs.Hint.{register_hint, statement_hint, takes_offset, with_number, written_hint};
 ghost use Rattle.rv_refusal.specs.NameSet.{holds};
 
 use crate::byte_hint::bytes_hint;
@@ -246,23 +247,70 @@ fn accesses_memory(name: &[u8]) -> bool
     )
 }
 
+// Whether an instruction has an offset with a register in parentheses.
+fn takes_offset(name: &[u8]) -> bool
+    ensures { result ≡ takes_offset name.now }
+{
+    accesses_memory(name) || name == b"jalr".as_slice()
+}
+
+// Whether a name stands after a number, without the parenthesis between them.
+fn lacks_opening(operand: &[Token<'_>]) -> bool
+    ensures { result ≡ lacks_opening (tokens_in operand.now) }
+{
+    matches!(
+        operand,
+        [Token::Number(_), Token::Name(_), ..]
+            | [Token::Minus, Token::Number(_), Token::Name(_), ..]
+    )
+}
+
+// Whether the parenthesis after a name is missing at the end.
+fn lacks_closing(operand: &[Token<'_>]) -> bool
+    ensures { result ≡ lacks_closing (tokens_in operand.now) }
+{
+    matches!(
+        operand,
+        [Token::LeftParenthesis, Token::Name(_)]
+            | [Token::Number(_), Token::LeftParenthesis, Token::Name(_)]
+    )
+}
+
+// Whether an offset with a register lacks a parenthesis.
+fn lacks_parenthesis(name: &[u8], operand: &[Token<'_>]) -> bool
+    ensures { result ≡ lacks_parenthesis name.now (tokens_in operand.now) }
+{
+    takes_offset(name) && (lacks_opening(operand) || lacks_closing(operand))
+}
+
+// How an offset with a register is written.
+#[tactic(auto, unfolding(crate::specs::Hint::offset_hint))]
+fn offset_hint() -> &'static [u8]
+    ensures { result.now ≡ offset_hint }
+{
+    b"hint: an address is written as offset(register), as in 8(sp)\n"
+}
+
 // What to write in place of a name where an address is to stand.
 #[tactic(auto, unfolding(crate::specs::Hint::address_hint))]
 fn address_hint(name: &[u8]) -> &'static [u8]
     ensures { result.now ≡ address_hint name.now }
 {
     if is_among(name, registers()) {
-        b"hint: an address is written as offset(register), as in 8(sp)\n"
+        offset_hint()
     } else {
         b"hint: an address is in a register: la t0, symbol loads it, and 0(t0) is the word there\n"
     }
 }
 
-// Appends what to write in place of an operand, from its first token on.
-#[tactic(auto, unfolding(crate::specs::Hint::operand_hint))]
-fn add_operand_hint(out: &mut Vec<u8>, name: &[u8], operand: &[Token<'_>]) -> Result<(), AllocError>
-    ensures { OnOk result (out.new.items ≡ out.old.items ++ operand_hint name.now (tokens_in operand.now)) }
+// Appends what to write in place of an operand with tokens, from its first one on.
+#[tactic(auto, unfolding(crate::specs::Hint::written_hint))]
+fn add_written_hint(out: &mut Vec<u8>, name: &[u8], operand: &[Token<'_>]) -> Result<(), AllocError>
+    ensures { OnOk result (out.new.items ≡ out.old.items ++ written_hint name.now (tokens_in operand.now)) }
 {
+    if lacks_parenthesis(name, operand) {
+        return add_text(out, offset_hint());
+    }
     if lacks_comma(operand) {
         return add_text(out, b"hint: a comma stands between two operands\n");
     }
@@ -275,6 +323,25 @@ fn add_operand_hint(out: &mut Vec<u8>, name: &[u8], operand: &[Token<'_>]) -> Re
     match first_name(operand) {
         Some(name) => add_text(out, address_hint(name)),
         None => Ok(()),
+    }
+}
+
+// That no operand stands after a comma.
+#[tactic(auto, unfolding(crate::specs::Hint::nothing_hint))]
+fn nothing_hint() -> &'static [u8]
+    ensures { result.now ≡ nothing_hint }
+{
+    b"hint: no operand stands after the last comma; what stands after # is a comment\n"
+}
+
+// Appends what to write in place of an operand, from its first token on.
+#[tactic(auto, unfolding(crate::specs::Hint::operand_hint))]
+fn add_operand_hint(out: &mut Vec<u8>, name: &[u8], operand: &[Token<'_>]) -> Result<(), AllocError>
+    ensures { OnOk result (out.new.items ≡ out.old.items ++ operand_hint name.now (tokens_in operand.now)) }
+{
+    match operand {
+        [] => add_text(out, nothing_hint()),
+        _ => add_written_hint(out, name, operand),
     }
 }
 

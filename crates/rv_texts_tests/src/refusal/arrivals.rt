@@ -86,6 +86,7 @@ line 5 of the job, line 4 of its arrivals, entry 2
      [[ arrival ]] # the second
         ^
 expected: cycle is a number from 0 to 1000000, no less than that of the entry before
+hint: this entry has no key cycle
 ",
     },
     Refused {
@@ -95,6 +96,7 @@ line 2 of the job, line 1 of its arrivals, entry 1
     [[arrival]]
       ^
 expected: line is \"software\", \"timer\" or \"external\"
+hint: this entry has no key line
 ",
     },
     Refused {
@@ -151,7 +153,7 @@ hint: a line %% has nothing but these two bytes
 ];
 
 // Lists of arrivals with names that are not known.
-static NAMES: [Refused; 10] = [
+static NAMES: [Refused; 12] = [
     Refused {
         job: b"%%\ncycle=5\n%%\nebreak\n",
         why: b"\
@@ -236,6 +238,26 @@ line 4 of the job, line 3 of its arrivals, entry 1
     ^
 expected: entries [[arrival]], each with cycle, line and level
 nearest: line
+",
+    },
+    Refused {
+        job: b"%%\nrob = 8\n%%\nebreak\n",
+        why: b"\
+line 2 of the job, line 1 of its arrivals
+    rob = 8
+    ^
+expected: entries [[arrival]], each with cycle, line and level
+hint: a description is the first of three parts, with no line %% before it
+",
+    },
+    Refused {
+        job: b"rob = 8\n%%\n[cache]\nsets = 4\n%%\nebreak\n",
+        why: b"\
+line 3 of the job, line 1 of its arrivals
+    [cache]
+     ^
+expected: entries [[arrival]], each with cycle, line and level
+hint: a description is the first of three parts, with no line %% before it
 ",
     },
     Refused {

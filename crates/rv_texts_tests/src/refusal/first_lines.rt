@@ -146,6 +146,7 @@ line 3 of the job, line 1 of its assembly: BadToken
     %%
     ^
 expected: names, numbers up to 4294967295, strings that end on their line, and the marks , : ( ) + -
+hint: at most two lines %% stand in a job, between its description, its arrivals and its assembly
 ",
     },
     Refused {
@@ -180,6 +181,7 @@ line 3 of the job, line 1 of its assembly: BadToken
     %%
     ^
 expected: names, numbers up to 4294967295, strings that end on their line, and the marks , : ( ) + -
+hint: at most two lines %% stand in a job, between its description, its arrivals and its assembly
 ",
     },
 ];

@@ -3,7 +3,11 @@ use std::test::Fail;
 
 const COMMENT: &str = "\nhint: a comment begins with #, and a line has one statement\n";
 
-const CHARACTER: &str = "\nhint: a character is written as its number, as 65 for A\n";
+const CHARACTER: &str =
+    "\nhint: a character is written as its number, as 65 for A, and a string in double quotes\n";
+
+const TOKENS: &str =
+    "\nexpected: names, numbers up to 4294967295, strings that end on their line, and the marks , : ( ) + -\n";
 
 const STRING: &str = "\nhint: a string ends on its line, and after \\ stands one of n t \\ \" 0\n";
 
@@ -20,13 +24,16 @@ const MACROS: &str = "\nhint: there are no macros and no conditions: the lines s
 
 const TWO_WORDS: &str = "\nnearest: .word\nhint: two words, the lower one first\n";
 
+const NOTHING: &str =
+    "\nhint: no operand stands after the last comma; what stands after # is a comment\n";
+
 const COMMA: &str = "\nhint: a comma stands between two operands\n";
 
 const ADDRESS: &str =
     "\nhint: an address is in a register: la t0, symbol loads it, and 0(t0) is the word there\n";
 
 // Lines with bytes that are no token, and what to write instead.
-static BYTES: [(&str, &str); 22] = [
+static BYTES: [(&str, &str); 26] = [
     ("nop // again", COMMENT),
     ("nop ; nop", COMMENT),
     ("li a0, 'A'", CHARACTER),
@@ -53,10 +60,11 @@ static BYTES: [(&str, &str); 22] = [
         "li a0,\u{a0}5",
         "\nhint: this byte is not ASCII, as a blank, a quote or a minus of a word processor is none\n",
     ),
-    (
-        "li a0, 5\u{7f}",
-        "\nexpected: names, numbers up to 4294967295, strings that end on their line, and the marks , : ( ) + -\n",
-    ),
+    ("li a0, 5\u{7f}", TOKENS),
+    ("li a0, 5 % 3", TOKENS),
+    ("add %rax, a0, a1", TOKENS),
+    (".word {1, 2}", TOKENS),
+    (".string 'no'", CHARACTER),
     ("li a0, 0X10", NUMBER),
     ("beq a0, a1, 1b", NUMBER),
     ("2nd: nop", NUMBER),
@@ -137,7 +145,7 @@ static LABELS: [(&str, &str); 7] = [
 ];
 
 // Statements with other operands, and what to write instead.
-static OPERANDS: [(&str, &str); 29] = [
+static OPERANDS: [(&str, &str); 39] = [
     (
         "addi a0, a1, a2",
         "\nhint: a2 is a register, and a symbol or a number stands here\n",
@@ -150,6 +158,19 @@ static OPERANDS: [(&str, &str); 29] = [
     ("li a0 5", COMMA),
     (".word 1 2 3", COMMA),
     ("li a0, 5 a1", COMMA),
+    ("lw a0 4(a1)", COMMA),
+    (
+        "csrw mtvec t0",
+        "\nexpected: csrw csr, rs1, as in 'csrw mscratch, x6'\nhint: a comma stands between two operands\n",
+    ),
+    ("lw a0, 4 a1)", OFFSET),
+    ("lh a0, -4 a1", OFFSET),
+    ("jalr ra, 4 a1)", OFFSET),
+    ("sw a0, 4(a1", OFFSET),
+    ("lw a0, (a1", OFFSET),
+    ("add a0, a1,", NOTHING),
+    ("addi a0, a0, #1", NOTHING),
+    (".word 1, 2,", NOTHING),
     ("add a0, a1, -5", "\nhint: with a number it is addi\n"),
     ("and a0, a1, 5", "\nhint: with a number it is andi\n"),
     ("or a0, a1, 5", "\nhint: with a number it is ori\n"),

@@ -2,7 +2,7 @@ use crate::refusal::{Refused, check_whole};
 use std::test::Fail;
 
 // Descriptions with names that are known elsewhere, with arrivals, and with names that nothing is near.
-static MISPLACED: [Refused; 13] = [
+static MISPLACED: [Refused; 16] = [
     Refused {
         job: b"[[arrival]]\ncycle = 5\nline = \"timer\"\n%%\nebreak\n",
         why: b"\
@@ -131,6 +131,38 @@ line 2 of the job, line 2 of its description
     entries_of_it = 8
     ^
 expected: a key or a table of a description
+hint: the keys of no table are ram_base, ram_size, rom_bytes, fetch_width, dispatch_width, commit_width, bus_width, fetch_buffer, rob, store_queue, forward, recovery, and no others
+hint: the tables are alu, mul, div, mem, cache, predictor, report, and no others
+",
+    },
+    Refused {
+        job: b"cache.associativity = 2\n%%\n",
+        why: b"\
+line 1 of the job, line 1 of its description
+    cache.associativity = 2
+    ^
+expected: a key or a table of a description
+hint: the keys of cache are sets, ways, line, hit, miss, write_back, and no others
+",
+    },
+    Refused {
+        job: b"[cache.first]\nsets = 4\n%%\n",
+        why: b"\
+line 1 of the job, line 1 of its description
+    [cache.first]
+     ^
+expected: a key or a table of a description
+hint: the keys of cache are sets, ways, line, hit, miss, write_back, and no others
+",
+    },
+    Refused {
+        job: b"[cache]\nfirst.sets = 4\n%%\n",
+        why: b"\
+line 2 of the job, line 2 of its description
+    first.sets = 4
+    ^
+expected: a key or a table of a description
+hint: the keys of cache are sets, ways, line, hit, miss, write_back, and no others
 ",
     },
 ];

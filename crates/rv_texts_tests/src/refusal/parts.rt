@@ -104,8 +104,9 @@ expected: predictor.kind is \"not_taken\", \"backward_taken\" or \"bimodal\", by
     },
 ];
 
-// Descriptions that give a table a value that is none, and one that gives it a value in braces.
-static TABLES: [Refused; 3] = [
+// Descriptions that give a table a value that is none, its name in quotes or in none, and some that give it a value in
+// braces.
+static TABLES: [Refused; 6] = [
     Refused {
         job: b"rob = 8\ncache = 4\n%%\n",
         why: b"\
@@ -129,6 +130,33 @@ expected: alu is a table, as in a line '[alu]' before those of its keys
         why: b"\
 line 1 of the job, line 1 of its description
     cache = { sets = 3 }
+    ^
+expected: cache.sets is a power of two from 1 to 256, by default 16
+",
+    },
+    Refused {
+        job: b"cache = 4 # {\n%%\n",
+        why: b"\
+line 1 of the job, line 1 of its description
+    cache = 4 # {
+    ^
+expected: cache is a table, as in a line '[cache]' before those of its keys
+",
+    },
+    Refused {
+        job: b" \"cache\" = 4\n%%\n",
+        why: b"\
+line 1 of the job, line 1 of its description
+     \"cache\" = 4
+     ^
+expected: cache is a table, as in a line '[cache]' before those of its keys
+",
+    },
+    Refused {
+        job: b"[ 'cache' ]\n'sets' = 3\n%%\n",
+        why: b"\
+line 2 of the job, line 2 of its description
+    'sets' = 3
     ^
 expected: cache.sets is a power of two from 1 to 256, by default 16
 ",
