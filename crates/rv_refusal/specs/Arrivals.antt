@@ -1,5 +1,5 @@
 -- Why a list of arrivals is refused.
-use Rattle.std.specs.Prelude.{ℕ, ◌+◌, ◌==◌, List, [], ◌++◌, codes, decimal, if◌then◌else◌, Option}
+use Rattle.std.specs.Prelude.{ℕ, ◌+◌, ◌==◌, List, [], ◌++◌, codes, decimal, if◌then◌else◌, is_none, Option}
 use Rattle.std.specs.{Option.option_map_or, Option.option_or}
 use Rattle.rv_describe.specs.Entries.{entry_of, field_of}
 use Rattle.rv_describe.specs.declared.{arrivals_error.ArrivalsError.ArrivalsError, field.Field.Field}
@@ -123,9 +123,20 @@ unfoldable pub unknown_lines : ℕ → List ℕ → List ℕ
 unknown_lines before part =
     option_map_or (unknown_line before) (first_sought unknown_on part) arrival_expected
 
+-- that arrivals stand there, and no assembly, where no line gives any
+unfoldable pub parts_line : List ℕ → List ℕ
+parts_line part =
+    if is_none (line_of_list part)
+    then codes "hint: arrivals are the second of three parts, and assembly is the third one\n"
+    else []
+
+-- why arrivals are refused that are no TOML
+unfoldable pub toml_lines : ℕ → List ℕ → List ℕ
+toml_lines before part = no_toml (codes "arrivals") before (codes "'[[arrival]]'") part ++ parts_line part
+
 -- why arrivals are refused that so many lines of the job stand before
 unfoldable pub part_lines : ℕ → List ℕ → ArrivalsError → List ℕ
-part_lines before part NotToml = no_toml (codes "arrivals") before (codes "'[[arrival]]'") part
+part_lines before part NotToml = toml_lines before part
 part_lines before part UnknownKey = unknown_lines before part
 part_lines before part Memory = []
 part_lines before part error = entry_lines before part error

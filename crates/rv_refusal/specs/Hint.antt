@@ -91,6 +91,12 @@ begins_with_number (token.Number number ∷ rest) = true
 begins_with_number (token.Minus ∷ token.Number number ∷ rest) = true
 begins_with_number _ = false
 
+-- the multiplications and divisions
+unfoldable pub products : List (List ℕ)
+products =
+    codes "mul" ∷ codes "mulh" ∷ codes "mulhsu" ∷ codes "mulhu" ∷ codes "div" ∷ codes "divu" ∷ codes "rem" ∷ codes "remu"
+    ∷ []
+
 -- what an instruction on registers is with a number in the place of one
 unfoldable pub with_number : List ℕ → List ℕ
 with_number name =
@@ -98,7 +104,8 @@ with_number name =
     then codes "hint: with a number it is " ++ (name ++ codes "i\n")
     else (if bytes_eq name (codes "sub") then codes "hint: with a number it is addi, and the number has the other sign\n"
     else (if bytes_eq name (codes "mv") then codes "hint: with a number it is li\n"
-    else []))
+    else (if is_one_of products name then codes "hint: it takes registers alone: li loads a number into one\n"
+    else [])))
 
 -- an instruction loads or stores
 abbrev pub accesses_memory : List ℕ → Bool

@@ -5,8 +5,8 @@ ghost use Rattle.rv_refusal.specs.Arrivals.{arrival_expected, arrival_names, arr
 ghost use Rattle.rv_refusal.specs.Arrivals.{entry_line_text, entry_lines, entry_text, field_line, field_lines};
 ghost use Rattle.rv_refusal.specs.Arrivals.{field_name, given_lines, heading_lines, in_entry_text, lacking_lines};
 ghost use Rattle.rv_refusal.specs.Arrivals.{line_of_entry, line_of_field, line_of_list, list_lines, missing_line};
-ghost use Rattle.rv_refusal.specs.Arrivals.{missing_lines, name_line, part_lines, unfound_lines, unknown_line};
-ghost use Rattle.rv_refusal.specs.Arrivals.{unknown_lines};
+ghost use Rattle.rv_refusal.specs.Arrivals.{missing_lines, name_line, part_lines, parts_line, toml_lines};
+ghost use Rattle.rv_refusal.specs.Arrivals.{unfound_lines, unknown_line, unknown_lines};
 ghost use Rattle.rv_refusal.specs.EntryLine.{entry_line};
 ghost use Rattle.rv_refusal.specs.KeyNames.{key_names};
 ghost use Rattle.rv_refusal.specs.NameSet.{is_one_of};
@@ -321,6 +321,34 @@ fn add_unknown_lines(
     }
 }
 
+// Appends that arrivals stand there, and no assembly, where no line gives any.
+#[tactic(auto, unfolding(crate::specs::Arrivals::parts_line))]
+fn add_parts_line(out: &mut Vec<u8>, part: &[u8]) -> Result<(), AllocError>
+    ensures { OnOk result (out.new.items ≡ out.old.items ++ parts_line part.now) }
+{
+    if line_of_list(part).is_none() {
+        return add_text(
+            out,
+            b"hint: arrivals are the second of three parts, and assembly is the third one\n",
+        );
+    }
+    Ok(())
+}
+
+// Appends why arrivals are refused that are no TOML.
+#[tactic(auto, unfolding(crate::specs::Arrivals::toml_lines))]
+fn add_toml_lines(
+    alloc: Global,
+    out: &mut Vec<u8>,
+    before: usize,
+    part: &[u8],
+) -> Result<(), AllocError>
+    ensures { OnOk result (out.new.items ≡ out.old.items ++ toml_lines before part.now) }
+{
+    add_no_toml(alloc, out, b"arrivals", before, b"'[[arrival]]'", part)?;
+    add_parts_line(out, part)
+}
+
 // Appends why arrivals are refused that so many lines of the job stand before.
 #[tactic(auto, unfolding(crate::specs::Arrivals::part_lines))]
 fn add_part(
@@ -333,9 +361,7 @@ fn add_part(
     ensures { OnOk result (out.new.items ≡ out.old.items ++ part_lines before part.now error) }
 {
     match error {
-        ArrivalsError::NotToml => {
-            add_no_toml(alloc, out, b"arrivals", before, b"'[[arrival]]'", part)
-        }
+        ArrivalsError::NotToml => add_toml_lines(alloc, out, before, part),
         ArrivalsError::UnknownKey => add_unknown_lines(alloc, out, before, part),
         ArrivalsError::Memory => Ok(()),
         ArrivalsError::WrongKind { .. }

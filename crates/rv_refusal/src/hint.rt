@@ -4,8 +4,9 @@ ghost use Rattle.rv_refusal.specs.Hint.{accesses_memory, address_hint, begins_wi
 ghost use Rattle.rv_refusal.specs.Hint.{directive_hint, double_directives, hint, idle_directives};
 ghost use Rattle.rv_refusal.specs.Hint.{is_known_otherwise, is_word, label_hint, lacks_closing, lacks_comma};
 ghost use Rattle.rv_refusal.specs.Hint.{lacks_opening, lacks_parenthesis, line_directives, name_hint, nothing_hint};
-ghost use Rattle.rv_refusal.specs.Hint.{offset_hint, operand_hint, operands_hint, range_hint, reads_as_label};
-ghost use Rattle.rv_refusal.specs.Hint.{register_hint, statement_hint, takes_offset, with_number, written_hint};
+ghost use Rattle.rv_refusal.specs.Hint.{offset_hint, operand_hint, operands_hint, products, range_hint};
+ghost use Rattle.rv_refusal.specs.Hint.{reads_as_label, register_hint, statement_hint, takes_offset};
+ghost use Rattle.rv_refusal.specs.Hint.{with_number, written_hint};
 ghost use Rattle.rv_refusal.specs.NameSet.{holds};
 
 use crate::byte_hint::bytes_hint;
@@ -48,6 +49,18 @@ static LINE_DIRECTIVES: [&[u8]; 8] = [
 
 // Those of data of 64 bits.
 static DOUBLE_DIRECTIVES: [&[u8]; 3] = [b".quad", b".dword", b".8byte"];
+
+// The multiplications and divisions.
+static PRODUCTS: [&[u8]; 8] = [
+    b"mul", b"mulh", b"mulhsu", b"mulhu", b"div", b"divu", b"rem", b"remu",
+];
+
+#[tactic(auto, unfolding(crate::specs::Hint::products))]
+fn products() -> &'static [&'static [u8]]
+    ensures { map (λ name. name.now) result.now ≡ products }
+{
+    &PRODUCTS
+}
 
 #[tactic(auto, unfolding(crate::specs::Hint::idle_directives))]
 fn idle_directives() -> &'static [&'static [u8]]
@@ -233,6 +246,12 @@ fn add_with_number(out: &mut Vec<u8>, name: &[u8]) -> Result<(), AllocError>
     }
     if name == b"mv".as_slice() {
         return add_text(out, b"hint: with a number it is li\n");
+    }
+    if is_among(name, products()) {
+        return add_text(
+            out,
+            b"hint: it takes registers alone: li loads a number into one\n",
+        );
     }
     Ok(())
 }

@@ -78,7 +78,7 @@ expected: level is 0 or 1, by default 1
 ];
 
 // Lists of arrivals that are refused by a field that is missing or stands on no line of its own, or by the list itself.
-static MISSING: [Refused; 8] = [
+static MISSING: [Refused; 9] = [
     Refused {
         job: b"%%\n[[arrival]]\ncycle = 1\nline = \"timer\"\n [[ arrival ]] # the second\nline = \"timer\"\n%%\nebreak\n",
         why: b"\
@@ -129,6 +129,15 @@ line 4 of the job, line 2 of its arrivals, entry 1
     [arrival]
      ^
 expected: the heading of each entry is [[arrival]]
+",
+    },
+    Refused {
+        job: b"%%\narrival = [ { cycle = 5 ]\n%%\nebreak\n",
+        why: b"\
+line 2 of the job, line 1 of its arrivals
+    arrival = [ { cycle = 5 ]
+    ^
+expected: TOML, as in '[[arrival]]': a value for each key, strings in quotes, brackets closed, whole numbers up to 9223372036854775807
 ",
     },
     Refused {

@@ -27,6 +27,8 @@ const TWO_WORDS: &str = "\nnearest: .word\nhint: two words, the lower one first\
 const NOTHING: &str =
     "\nhint: no operand stands after the last comma; what stands after # is a comment\n";
 
+const REGISTERS: &str = "\nhint: it takes registers alone: li loads a number into one\n";
+
 const COMMA: &str = "\nhint: a comma stands between two operands\n";
 
 const ADDRESS: &str =
@@ -145,7 +147,7 @@ static LABELS: [(&str, &str); 7] = [
 ];
 
 // Statements with other operands, and what to write instead.
-static OPERANDS: [(&str, &str); 39] = [
+static OPERANDS: [(&str, &str); 41] = [
     (
         "addi a0, a1, a2",
         "\nhint: a2 is a register, and a symbol or a number stands here\n",
@@ -184,6 +186,8 @@ static OPERANDS: [(&str, &str); 39] = [
         "\nhint: with a number it is addi, and the number has the other sign\n",
     ),
     ("mv a0, 5", "\nhint: with a number it is li\n"),
+    ("mul a0, a1, 3", REGISTERS),
+    ("remu a0, a1, -3", REGISTERS),
     (
         "sltu a0, a1, 5",
         "\nexpected: sltu rd, rs1, rs2, as in 'sltu x5, x6, x7'\n",
