@@ -1,5 +1,5 @@
 -- Why a list of arrivals is refused.
-use Rattle.std.specs.Prelude.{ℕ, ◌+◌, ◌==◌, List, [], ◌++◌, codes, decimal, if◌then◌else◌, is_none, Option}
+use Rattle.std.specs.Prelude.{ℕ, ◌+◌, ◌==◌, Bool, List, [], ◌++◌, codes, decimal, if◌then◌else◌, is_none, Option}
 use Rattle.std.specs.{Option.option_map_or, Option.option_or}
 use Rattle.rv_describe.specs.Entries.{entry_of, field_of}
 use Rattle.rv_describe.specs.declared.{arrivals_error.ArrivalsError.ArrivalsError, field.Field.Field}
@@ -109,9 +109,13 @@ arrival_expected = codes "expected: entries [[arrival]], each with cycle, line a
 unfoldable pub description_line : List ℕ
 description_line = codes "hint: a description is the first of three parts, with no line %% before it\n"
 
+-- a name is that of a key or a table of a description
+unfoldable pub is_described : List ℕ → Bool
+is_described name = is_one_of key_names name
+
 -- what is said of an unknown name: that it is one of a description, or else the known names that it may stand for
 unfoldable pub name_line : List ℕ → List ℕ
-name_line name = if is_one_of key_names name then description_line else spelling_line name arrival_names
+name_line name = if is_described name then description_line else spelling_line name arrival_names
 
 -- a line with an unknown name, what was expected there, and what is said of the name
 unfoldable pub unknown_line : ℕ → EntryLine → List ℕ

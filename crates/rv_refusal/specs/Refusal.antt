@@ -5,12 +5,12 @@ use Rattle.rv_asm.specs.declared.fault.AsmError.{AsmError}
 use Rattle.rv_job.specs.Parts.{parts_of}
 use Rattle.rv_job.specs.declared.errors.SimError.{SimError}
 use Rattle.rv_job.specs.declared.errors.SimError.TheVariants.{TooLong, Description, Arrivals, Assembly, ImageDoesNotFit}
-use Rattle.rv_refusal.specs.Hint.{hint}
 use Rattle.rv_refusal.specs.Arrivals.{arrivals_lines}
 use Rattle.rv_refusal.specs.Caret.{caret_line}
 use Rattle.rv_refusal.specs.Described.{description_lines}
 use Rattle.rv_refusal.specs.Expected.{expected}
 use Rattle.rv_refusal.specs.Further.{further_lines}
+use Rattle.rv_refusal.specs.Hint.{hint}
 use Rattle.rv_refusal.specs.Lines.{line_at, lines_before}
 use Rattle.rv_refusal.specs.Names.{symbols_at}
 use Rattle.rv_refusal.specs.NameSet.{is_one_of}

@@ -3,13 +3,11 @@ ghost use Rattle.std.specs.Option.{option_map_or};
 ghost use Rattle.rv_job.specs.ReadParts.{parts_in};
 ghost use Rattle.rv_refusal.specs.Arrivals.{arrival_expected, arrival_names, arrivals_lines, description_line};
 ghost use Rattle.rv_refusal.specs.Arrivals.{entry_line_text, entry_lines, entry_text, field_line, field_lines};
-ghost use Rattle.rv_refusal.specs.Arrivals.{field_name, given_lines, heading_lines, in_entry_text, lacking_lines};
-ghost use Rattle.rv_refusal.specs.Arrivals.{line_of_entry, line_of_field, line_of_list, list_lines, missing_line};
+ghost use Rattle.rv_refusal.specs.Arrivals.{field_name, given_lines, heading_lines, in_entry_text, is_described};
+ghost use Rattle.rv_refusal.specs.Arrivals.{lacking_lines, line_of_entry, line_of_field, line_of_list, list_lines, missing_line};
 ghost use Rattle.rv_refusal.specs.Arrivals.{missing_lines, name_line, part_lines, parts_line, toml_lines};
 ghost use Rattle.rv_refusal.specs.Arrivals.{unfound_lines, unknown_line, unknown_lines};
 ghost use Rattle.rv_refusal.specs.EntryLine.{entry_line};
-ghost use Rattle.rv_refusal.specs.KeyNames.{key_names};
-ghost use Rattle.rv_refusal.specs.NameSet.{is_one_of};
 
 use crate::caret::add_marked_line;
 use crate::entry_line::{EntryLine, Sought, first_sought};
@@ -272,8 +270,9 @@ fn description_line() -> &'static [u8]
 }
 
 // Whether a name is that of a key or a table of a description.
+#[tactic(auto, unfolding(crate::specs::Arrivals::is_described))]
 fn is_described(alloc: Global, name: &[u8]) -> Result<bool, AllocError>
-    ensures { IfOk result (λ is. is ≡ is_one_of key_names name.now) }
+    ensures { IfOk result (λ is. is ≡ is_described name.now) }
 {
     let keys = key_names(alloc)?;
     Ok(is_among(name, keys.as_slice()))

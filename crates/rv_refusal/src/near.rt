@@ -1,7 +1,7 @@
 ghost use Rattle.std.specs.Prelude.{◌≡◌, ◌++◌, IfOk, OnOk, map};
 ghost use Rattle.std.specs.List.{filter};
 ghost use Rattle.rv_describe.specs.Near.{is_near};
-ghost use Rattle.rv_refusal.specs.Near.{spelling_line, names_line, nearest, other_names};
+ghost use Rattle.rv_refusal.specs.Near.{names_line, nearest, other_names, spelling_line};
 
 use crate::key_line::is_among;
 use crate::names::add_name;
