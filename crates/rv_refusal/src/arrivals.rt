@@ -4,9 +4,9 @@ ghost use Rattle.rv_job.specs.ReadParts.{parts_in};
 ghost use Rattle.rv_refusal.specs.Arrivals.{arrival_expected, arrival_names, arrivals_lines, description_line};
 ghost use Rattle.rv_refusal.specs.Arrivals.{entry_line_text, entry_lines, entry_text, field_line, field_lines};
 ghost use Rattle.rv_refusal.specs.Arrivals.{field_name, given_lines, heading_lines, in_entry_text, is_described};
-ghost use Rattle.rv_refusal.specs.Arrivals.{lacking_lines, line_of_entry, line_of_field, line_of_list, list_lines, missing_line};
-ghost use Rattle.rv_refusal.specs.Arrivals.{missing_lines, name_line, part_lines, parts_line, toml_lines};
-ghost use Rattle.rv_refusal.specs.Arrivals.{unfound_lines, unknown_line, unknown_lines};
+ghost use Rattle.rv_refusal.specs.Arrivals.{lacking_lines, line_of_entry, line_of_field, line_of_list, list_lines};
+ghost use Rattle.rv_refusal.specs.Arrivals.{missing_line, missing_lines, name_line, part_lines, parts_line};
+ghost use Rattle.rv_refusal.specs.Arrivals.{toml_lines, unfound_lines, unknown_line, unknown_lines};
 ghost use Rattle.rv_refusal.specs.EntryLine.{entry_line};
 
 use crate::caret::add_marked_line;
