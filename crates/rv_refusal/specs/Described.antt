@@ -59,8 +59,8 @@ line_of_name key part =
 unfoldable pub line_of_key : Key → List ℕ → Option KeyLine
 line_of_key key part = option_or (array_line key part) (line_of_name key part)
 
--- a line gives the table of a key a value that is none: it is no line of a table in brackets, and its value begins with no
--- brace
+-- a line gives the table of a key a value that is none: it is no line of a table in brackets, and its value begins with
+-- no brace
 abbrev pub gives_no_table : Key → KeyLine → Bool
 gives_no_table key found =
     bytes_eq found.name (table_of key)

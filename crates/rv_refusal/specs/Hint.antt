@@ -94,8 +94,8 @@ begins_with_number _ = false
 -- the multiplications and divisions
 unfoldable pub products : List (List ℕ)
 products =
-    codes "mul" ∷ codes "mulh" ∷ codes "mulhsu" ∷ codes "mulhu" ∷ codes "div" ∷ codes "divu" ∷ codes "rem" ∷ codes "remu"
-    ∷ []
+    codes "mul" ∷ codes "mulh" ∷ codes "mulhsu" ∷ codes "mulhu" ∷ codes "div" ∷ codes "divu" ∷ codes "rem"
+    ∷ codes "remu" ∷ []
 
 -- what an instruction on registers is with a number in the place of one
 unfoldable pub with_number : List ℕ → List ℕ
@@ -142,14 +142,21 @@ address_hint name =
     if is_one_of registers name then offset_hint
     else codes "hint: an address is in a register: la t0, symbol loads it, and 0(t0) is the word there\n"
 
+-- statements without operands
+unfoldable pub bare_statements : List (List ℕ)
+bare_statements =
+    codes ".text" ∷ codes ".data" ∷ codes "nop" ∷ codes "ret" ∷ codes "ecall" ∷ codes "ebreak" ∷ codes "mret"
+    ∷ codes "wfi" ∷ codes "fence" ∷ codes "fence.i" ∷ []
+
 -- what to write in place of an operand with tokens, from its first one on
 unfoldable pub written_hint : List ℕ → List Token → List ℕ
 written_hint name operand =
-    if lacks_parenthesis name operand then offset_hint
+    if is_one_of bare_statements name then codes "hint: it takes no operand, and a line has one statement\n"
+    else (if lacks_parenthesis name operand then offset_hint
     else (if lacks_comma operand then codes "hint: a comma stands between two operands\n"
     else (if begins_with_number operand then with_number name
     else (if accesses_memory name then option_map_or address_hint (first_name operand) []
-    else [])))
+    else []))))
 
 -- that no operand stands after a comma
 unfoldable pub nothing_hint : List ℕ

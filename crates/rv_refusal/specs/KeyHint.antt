@@ -1,11 +1,12 @@
 -- What is said of a name that a description does not know where it stands.
 use Rattle.std.specs.Prelude.{ℕ, ◌==◌, Bool, not, List, [], ◌∷◌, ◌++◌, codes, if◌then◌else◌, length, take}
-use Rattle.std.specs.Prelude.{Option, Some, None}
+use Rattle.std.specs.Prelude.{Option, Some, None, is_none}
 use Rattle.std.specs.{List.flat_map, List.list_any, List.prefix_len, Option.option_map_or, Option.option_or}
 use Rattle.std.specs.Str.{bytes_eq}
 use Rattle.rv_isa.specs.Key.{order}
 use Rattle.rv_refusal.specs.KeyLine.{KeyLine}
 use Rattle.rv_refusal.specs.KeyNames.{names_in, tables_from}
+use Rattle.rv_refusal.specs.NameOn.{heading_on}
 use Rattle.rv_refusal.specs.Near.{names_line, spelling_line}
 use Rattle.rv_refusal.specs.OrElse.{or_else}
 
@@ -25,11 +26,14 @@ unfoldable pub table_keys : Option (List ℕ) → List ℕ
 table_keys None = []
 table_keys (Some table) = all_names (codes "keys of ") table (names_in (Some table) order)
 
--- the lines with all keys of no table, and with all tables
-unfoldable pub top_names : List ℕ
-top_names =
-    all_names (codes "keys of ") (codes "no table") (names_in None order)
-    ++ all_names (codes "tables") [] (tables_from None order)
+-- the line with all keys of no table, where no heading stands
+unfoldable pub bare_keys : List ℕ → List ℕ
+bare_keys line =
+    if is_none (heading_on line) then all_names (codes "keys of ") (codes "no table") (names_in None order) else []
+
+-- the lines with all names that may stand on a line in no table: the keys of no table, and the tables
+unfoldable pub top_names : List ℕ → List ℕ
+top_names line = bare_keys line ++ all_names (codes "tables") [] (tables_from None order)
 
 -- the byte is no dot
 abbrev pub is_undotted : ℕ → Bool
@@ -56,7 +60,7 @@ here_line found =
 -- the lines on an unknown name by the keys that have it in another table, or else by the known names that it may stand
 -- for, or by all that may stand there
 unfoldable pub table_hint : List (List ℕ) → KeyLine → List (List ℕ) → List ℕ
-table_hint known found [] = or_else (near_or_keys known found) top_names
+table_hint known found [] = or_else (near_or_keys known found) (top_names found.line)
 table_hint known found (key ∷ keys) = here_line found ++ names_line (key ∷ keys)
 
 -- which key a name is that stands in a table, and is known in none

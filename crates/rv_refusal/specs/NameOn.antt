@@ -44,8 +44,8 @@ quoted_at before quote mark rest =
     if begins_with quote (drop size rest) && goes_on_with mark (drop (size + 1) rest)
     then Some (record { before = before; name = take size rest }) else None
 
--- the name that stands at the front of what follows so many bytes of a line, in quotes or in none, if a mark stands after
--- it
+-- the name that stands at the front of what follows so many bytes of a line, in quotes or in none, if a mark stands
+-- after it
 unfoldable pub front_name : ℕ → ℕ → List ℕ → Option NameOn
 front_name before mark rest =
     if begins_with 34 rest then quoted_at before 34 mark (drop 1 rest)

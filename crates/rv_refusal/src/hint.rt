@@ -1,6 +1,7 @@
 ghost use Rattle.std.specs.Prelude.{◌≡◌, ◌++◌, IfOk, OnOk, map};
 ghost use Rattle.rv_asm.specs.Read.{token_of, tokens_in};
-ghost use Rattle.rv_refusal.specs.Hint.{accesses_memory, address_hint, begins_with_number, body_hint};
+ghost use Rattle.rv_refusal.specs.Hint.{accesses_memory, address_hint, bare_statements, begins_with_number};
+ghost use Rattle.rv_refusal.specs.Hint.{body_hint};
 ghost use Rattle.rv_refusal.specs.Hint.{directive_hint, double_directives, hint, idle_directives};
 ghost use Rattle.rv_refusal.specs.Hint.{is_known_otherwise, is_word, label_hint, lacks_closing, lacks_comma};
 ghost use Rattle.rv_refusal.specs.Hint.{lacks_opening, lacks_parenthesis, line_directives, name_hint, nothing_hint};
@@ -50,10 +51,22 @@ static LINE_DIRECTIVES: [&[u8]; 8] = [
 // Those of data of 64 bits.
 static DOUBLE_DIRECTIVES: [&[u8]; 3] = [b".quad", b".dword", b".8byte"];
 
+// Statements without operands.
+static BARE_STATEMENTS: [&[u8]; 10] = [
+    b".text", b".data", b"nop", b"ret", b"ecall", b"ebreak", b"mret", b"wfi", b"fence", b"fence.i",
+];
+
 // The multiplications and divisions.
 static PRODUCTS: [&[u8]; 8] = [
     b"mul", b"mulh", b"mulhsu", b"mulhu", b"div", b"divu", b"rem", b"remu",
 ];
+
+#[tactic(auto, unfolding(crate::specs::Hint::bare_statements))]
+fn bare_statements() -> &'static [&'static [u8]]
+    ensures { map (λ name. name.now) result.now ≡ bare_statements }
+{
+    &BARE_STATEMENTS
+}
 
 #[tactic(auto, unfolding(crate::specs::Hint::products))]
 fn products() -> &'static [&'static [u8]]
@@ -327,6 +340,12 @@ fn address_hint(name: &[u8]) -> &'static [u8]
 fn add_written_hint(out: &mut Vec<u8>, name: &[u8], operand: &[Token<'_>]) -> Result<(), AllocError>
     ensures { OnOk result (out.new.items ≡ out.old.items ++ written_hint name.now (tokens_in operand.now)) }
 {
+    if is_among(name, bare_statements()) {
+        return add_text(
+            out,
+            b"hint: it takes no operand, and a line has one statement\n",
+        );
+    }
     if lacks_parenthesis(name, operand) {
         return add_text(out, offset_hint());
     }

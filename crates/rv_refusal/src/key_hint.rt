@@ -1,8 +1,8 @@
 ghost use Rattle.std.specs.Prelude.{◌≡◌, ◌≤◌, ◌++◌, [], IfOk, None, OnOk, codes, length, map, option_copied};
 ghost use Rattle.std.specs.List.{prefix_len};
 ghost use Rattle.rv_isa.specs.Key.{order};
-ghost use Rattle.rv_refusal.specs.KeyHint.{all_names, arrivals_line, before_dot, each_name, given_table, here_line};
-ghost use Rattle.rv_refusal.specs.KeyHint.{is_undotted, key_hint, near_or_keys, outside_line, table_hint};
+ghost use Rattle.rv_refusal.specs.KeyHint.{all_names, arrivals_line, bare_keys, before_dot, each_name, given_table};
+ghost use Rattle.rv_refusal.specs.KeyHint.{here_line, is_undotted, key_hint, near_or_keys, outside_line, table_hint};
 ghost use Rattle.rv_refusal.specs.KeyHint.{table_keys, top_names};
 ghost use Rattle.rv_refusal.specs.KeyLine.{key_line};
 ghost use Rattle.rv_refusal.specs.KeyNames.{names_in, tables_from};
@@ -10,6 +10,7 @@ ghost use Rattle.rv_refusal.specs.OrElse.{or_else};
 
 use crate::key_line::{KeyLine, full_name, is_among};
 use crate::key_names::{names_in, table_names};
+use crate::name_on::heading_on;
 use crate::near::{add_names_line, add_spelling_line};
 use crate::text::{add_all, add_text};
 use std::alloc::{AllocError, Global};
@@ -76,21 +77,37 @@ fn add_table_keys(alloc: Global, out: &mut Vec<u8>, table: Option<&[u8]>) -> Res
     Ok(())
 }
 
-// Appends the lines with all keys of no table, and with all tables.
-#[tactic(auto, unfolding(crate::specs::KeyHint::top_names))]
-fn add_top_names(alloc: Global, out: &mut Vec<u8>) -> Result<(), AllocError>
-    ensures { OnOk result (out.new.items ≡ out.old.items ++ top_names) }
+// Appends the line with all keys of no table, where no heading stands.
+#[tactic(auto, unfolding(crate::specs::KeyHint::bare_keys))]
+fn add_bare_keys(alloc: Global, out: &mut Vec<u8>, line: &[u8]) -> Result<(), AllocError>
+    ensures { OnOk result (out.new.items ≡ out.old.items ++ bare_keys line.now) }
 {
-    add_all_keys(alloc, out, None, b"no table")?;
+    if heading_on(line).is_none() {
+        return add_all_keys(alloc, out, None, b"no table");
+    }
+    Ok(())
+}
+
+// Appends the lines with all names that may stand on a line in no table.
+#[tactic(auto, unfolding(crate::specs::KeyHint::top_names))]
+fn add_top_names(alloc: Global, out: &mut Vec<u8>, line: &[u8]) -> Result<(), AllocError>
+    ensures { OnOk result (out.new.items ≡ out.old.items ++ top_names line.now) }
+{
+    add_bare_keys(alloc, out, line)?;
     add_all_tables(alloc, out)
 }
 
-// Appends lines, or else those with all keys of no table, and with all tables.
-fn add_or_top_names(alloc: Global, out: &mut Vec<u8>, lines: &[u8]) -> Result<(), AllocError>
-    ensures { OnOk result (out.new.items ≡ out.old.items ++ or_else lines.now top_names) }
+// Appends lines, or else those with all names that may stand on a line in no table.
+fn add_or_top_names(
+    alloc: Global,
+    out: &mut Vec<u8>,
+    lines: &[u8],
+    line: &[u8],
+) -> Result<(), AllocError>
+    ensures { OnOk result (out.new.items ≡ out.old.items ++ or_else lines.now (top_names line.now)) }
 {
     if lines.is_empty() {
-        return add_top_names(alloc, out);
+        return add_top_names(alloc, out, line);
     }
     add_text(out, lines)
 }
@@ -178,7 +195,7 @@ fn add_table_hint(
 {
     if keys.is_empty() {
         let lines = near_or_keys(alloc, known, found)?;
-        return add_or_top_names(alloc, out, lines.as_slice());
+        return add_or_top_names(alloc, out, lines.as_slice(), found.line);
     }
     add_here_line(out, found)?;
     add_names_line(out, keys)

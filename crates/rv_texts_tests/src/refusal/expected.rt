@@ -90,7 +90,10 @@ static SHAPES: [(&str, &str); 24] = [
         "li x1, no",
         "\nexpected: li rd, number or .equ symbol above, as in 'li x5, 8'\n",
     ),
-    ("ret x1", "\nexpected: ret, as in 'ret'\n"),
+    (
+        "ret x1",
+        "\nexpected: ret, as in 'ret'\nhint: it takes no operand, and a line has one statement\n",
+    ),
     (
         "jal",
         "\nexpected: jal symbol, as in 'jal loop'\nexpected: jal rd, symbol, as in 'jal x5, loop'\n",
@@ -111,7 +114,10 @@ static SHAPES: [(&str, &str); 24] = [
         ".ascii",
         "\nexpected: .ascii \"text\", as in '.ascii \"text\"'\n",
     ),
-    (".data 5", "\nexpected: .data, as in '.data'\n"),
+    (
+        ".data 5",
+        "\nexpected: .data, as in '.data'\nhint: it takes no operand, and a line has one statement\n",
+    ),
     (".globl", "\nexpected: .globl symbol, as in '.globl loop'\n"),
     (
         ".equ a",
@@ -121,7 +127,10 @@ static SHAPES: [(&str, &str); 24] = [
         ".word",
         "\nexpected: .word value, as in '.word 8'\nexpected: .word value, value, as in '.word 8, 8'\n",
     ),
-    ("a: ecall 5", "\nexpected: ecall, as in 'ecall'\n"),
+    (
+        "a: ecall 5",
+        "\nexpected: ecall, as in 'ecall'\nhint: it takes no operand, and a line has one statement\n",
+    ),
 ];
 
 // Other faults, and what is said of each.

@@ -27,6 +27,8 @@ const TWO_WORDS: &str = "\nnearest: .word\nhint: two words, the lower one first\
 const NOTHING: &str =
     "\nhint: no operand stands after the last comma; what stands after # is a comment\n";
 
+const ALONE: &str = "\nhint: it takes no operand, and a line has one statement\n";
+
 const REGISTERS: &str = "\nhint: it takes registers alone: li loads a number into one\n";
 
 const COMMA: &str = "\nhint: a comma stands between two operands\n";
@@ -147,7 +149,7 @@ static LABELS: [(&str, &str); 7] = [
 ];
 
 // Statements with other operands, and what to write instead.
-static OPERANDS: [(&str, &str); 41] = [
+static OPERANDS: [(&str, &str); 47] = [
     (
         "addi a0, a1, a2",
         "\nhint: a2 is a register, and a symbol or a number stands here\n",
@@ -186,6 +188,12 @@ static OPERANDS: [(&str, &str); 41] = [
         "\nhint: with a number it is addi, and the number has the other sign\n",
     ),
     ("mv a0, 5", "\nhint: with a number it is li\n"),
+    (".text addi a0, a0, 1", ALONE),
+    ("nop nop", ALONE),
+    ("ebreak 1", ALONE),
+    ("mret x", ALONE),
+    ("wfi wfi", ALONE),
+    ("fence.i rw", ALONE),
     ("mul a0, a1, 3", REGISTERS),
     ("remu a0, a1, -3", REGISTERS),
     (

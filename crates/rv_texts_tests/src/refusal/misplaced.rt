@@ -2,7 +2,7 @@ use crate::refusal::{Refused, check_whole};
 use std::test::Fail;
 
 // Descriptions with names that are known elsewhere, with arrivals, and with names that nothing is near.
-static MISPLACED: [Refused; 16] = [
+static MISPLACED: [Refused; 17] = [
     Refused {
         job: b"[[arrival]]\ncycle = 5\nline = \"timer\"\n%%\nebreak\n",
         why: b"\
@@ -143,6 +143,16 @@ line 1 of the job, line 1 of its description
     ^
 expected: a key or a table of a description
 hint: the keys of cache are sets, ways, line, hit, miss, write_back, and no others
+",
+    },
+    Refused {
+        job: b"[core]\nrob = 8\n%%\n",
+        why: b"\
+line 1 of the job, line 1 of its description
+    [core]
+     ^
+expected: a key or a table of a description
+hint: the tables are alu, mul, div, mem, cache, predictor, report, and no others
 ",
     },
     Refused {
