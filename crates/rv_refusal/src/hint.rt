@@ -1,13 +1,12 @@
 ghost use Rattle.std.specs.Prelude.{◌≡◌, ◌++◌, IfOk, OnOk, map};
 ghost use Rattle.rv_asm.specs.Read.{token_of, tokens_in};
 ghost use Rattle.rv_refusal.specs.Hint.{accesses_memory, address_hint, bare_statements, begins_with_number};
-ghost use Rattle.rv_refusal.specs.Hint.{body_hint};
-ghost use Rattle.rv_refusal.specs.Hint.{directive_hint, double_directives, hint, idle_directives};
+ghost use Rattle.rv_refusal.specs.Hint.{body_hint, directive_hint, double_directives, hint, idle_directives};
 ghost use Rattle.rv_refusal.specs.Hint.{is_known_otherwise, is_word, label_hint, lacks_closing, lacks_comma};
 ghost use Rattle.rv_refusal.specs.Hint.{lacks_opening, lacks_parenthesis, line_directives, name_hint, nothing_hint};
 ghost use Rattle.rv_refusal.specs.Hint.{offset_hint, operand_hint, operands_hint, products, range_hint};
-ghost use Rattle.rv_refusal.specs.Hint.{reads_as_label, register_hint, statement_hint, takes_offset};
-ghost use Rattle.rv_refusal.specs.Hint.{with_number, written_hint};
+ghost use Rattle.rv_refusal.specs.Hint.{reads_as_label, register_hint, statement_hint, takes_offset, with_number};
+ghost use Rattle.rv_refusal.specs.Hint.{written_hint};
 ghost use Rattle.rv_refusal.specs.NameSet.{holds};
 
 use crate::byte_hint::bytes_hint;
