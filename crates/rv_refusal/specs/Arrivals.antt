@@ -134,9 +134,13 @@ parts_line part =
     then codes "hint: arrivals are the second of three parts, and assembly is the third one\n"
     else []
 
+-- the line with which arrivals cease to be TOML, and what was expected there
+unfoldable pub no_arrivals : ℕ → List ℕ → List ℕ
+no_arrivals before part = no_toml (codes "arrivals") before (codes "'[[arrival]]'") part
+
 -- why arrivals are refused that are no TOML
 unfoldable pub toml_lines : ℕ → List ℕ → List ℕ
-toml_lines before part = no_toml (codes "arrivals") before (codes "'[[arrival]]'") part ++ parts_line part
+toml_lines before part = no_arrivals before part ++ parts_line part
 
 -- why arrivals are refused that so many lines of the job stand before
 unfoldable pub part_lines : ℕ → List ℕ → ArrivalsError → List ℕ

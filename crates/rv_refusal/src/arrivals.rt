@@ -4,7 +4,7 @@ ghost use Rattle.rv_job.specs.ReadParts.{parts_in};
 ghost use Rattle.rv_refusal.specs.Arrivals.{arrival_expected, arrival_names, arrivals_lines, description_line};
 ghost use Rattle.rv_refusal.specs.Arrivals.{entry_line_text, entry_lines, entry_text, field_line, field_lines};
 ghost use Rattle.rv_refusal.specs.Arrivals.{field_name, given_lines, heading_lines, in_entry_text, is_described};
-ghost use Rattle.rv_refusal.specs.Arrivals.{lacking_lines, line_of_entry, line_of_field, line_of_list, list_lines};
+ghost use Rattle.rv_refusal.specs.Arrivals.{lacking_lines, line_of_entry, line_of_field, line_of_list, list_lines, no_arrivals};
 ghost use Rattle.rv_refusal.specs.Arrivals.{missing_line, missing_lines, name_line, part_lines, parts_line};
 ghost use Rattle.rv_refusal.specs.Arrivals.{toml_lines, unfound_lines, unknown_line, unknown_lines};
 ghost use Rattle.rv_refusal.specs.EntryLine.{entry_line};
@@ -334,6 +334,19 @@ fn add_parts_line(out: &mut Vec<u8>, part: &[u8]) -> Result<(), AllocError>
     Ok(())
 }
 
+// Appends the line with which arrivals cease to be TOML, and what was expected there.
+#[tactic(auto, unfolding(crate::specs::Arrivals::no_arrivals))]
+fn add_no_arrivals(
+    alloc: Global,
+    out: &mut Vec<u8>,
+    before: usize,
+    part: &[u8],
+) -> Result<(), AllocError>
+    ensures { OnOk result (out.new.items ≡ out.old.items ++ no_arrivals before part.now) }
+{
+    add_no_toml(alloc, out, b"arrivals", before, b"'[[arrival]]'", part)
+}
+
 // Appends why arrivals are refused that are no TOML.
 #[tactic(auto, unfolding(crate::specs::Arrivals::toml_lines))]
 fn add_toml_lines(
@@ -344,7 +357,7 @@ fn add_toml_lines(
 ) -> Result<(), AllocError>
     ensures { OnOk result (out.new.items ≡ out.old.items ++ toml_lines before part.now) }
 {
-    add_no_toml(alloc, out, b"arrivals", before, b"'[[arrival]]'", part)?;
+    add_no_arrivals(alloc, out, before, part)?;
     add_parts_line(out, part)
 }
 
