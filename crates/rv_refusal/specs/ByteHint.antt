@@ -1,5 +1,5 @@
 -- What to write in place of bytes that are no token.
-use Rattle.std.specs.Prelude.{ℕ, ◌==◌, ◌&&◌, ◌||◌, Bool, not, List, [], codes, if◌then◌else◌, is_some, length, nat_lt}
+use Rattle.std.specs.Prelude.{ℕ, ◌==◌, ◌&&◌, ◌||◌, Bool, false, not, List, [], ◌∷◌, codes, if◌then◌else◌, is_some, length, nat_lt}
 use Rattle.std.specs.{Char.is_ascii_digit, List.list_any, List.slice_get, Option.option_map_or}
 use Rattle.rv_refusal.specs.Caret.{token_place}
 use Rattle.rv_refusal.specs.NameOn.{goes_on_with, key_on}
@@ -30,14 +30,24 @@ mark_hint line byte =
     else (if byte == 64 then codes "hint: a line of .type may be left out, and a comment begins with #\n"
     else [])))))))
 
+-- the byte order mark of UTF-8 begins a line
+unfoldable pub has_order_mark : List ℕ → Bool
+has_order_mark (first ∷ second ∷ third ∷ others) = first == 0xef && (second == 0xbb && third == 0xbf)
+has_order_mark others = false
+
+-- what to write in place of a byte that is not ASCII
+unfoldable pub foreign_hint : List ℕ → List ℕ
+foreign_hint line =
+    if has_order_mark line
+    then codes "hint: these bytes are a byte order mark: save the text as UTF-8 without one\n"
+    else codes "hint: this byte is not ASCII, as a blank, a quote or a minus of a word processor is none\n"
+
 -- what to write in place of what begins with a byte of a line and is no token
 unfoldable pub byte_hint : List ℕ → ℕ → List ℕ
 byte_hint line byte =
     if is_ascii_digit byte
     then codes "hint: a number is decimal, or has 0x or 0b before it, and is at most 4294967295; no name begins with a digit\n"
-    else (if nat_lt 127 byte
-    then codes "hint: this byte is not ASCII, as a blank, a quote or a minus of a word processor is none\n"
-    else mark_hint line byte)
+    else (if nat_lt 127 byte then foreign_hint line else mark_hint line byte)
 
 -- a line reads as a separator or as a heading of a table, or as one with a key where the assembly begins on the job's
 -- first line

@@ -1,6 +1,6 @@
 ghost use Rattle.std.specs.Prelude.{◌≡◌};
-ghost use Rattle.rv_refusal.specs.ByteHint.{byte_hint, bytes_hint, is_bracket, is_mark, is_relocation, mark_hint};
-ghost use Rattle.rv_refusal.specs.ByteHint.{reads_as_part};
+ghost use Rattle.rv_refusal.specs.ByteHint.{byte_hint, bytes_hint, foreign_hint, has_order_mark, is_bracket, is_mark};
+ghost use Rattle.rv_refusal.specs.ByteHint.{is_relocation, mark_hint, reads_as_part};
 
 use crate::caret::token_place;
 use crate::name_on::{goes_on_with, key_on};
@@ -57,6 +57,28 @@ fn mark_hint(line: &[u8], byte: u8) -> &'static [u8]
     b""
 }
 
+// Whether the byte order mark of UTF-8 begins a line.
+#[tactic(auto, unfolding(crate::specs::ByteHint::has_order_mark))]
+fn has_order_mark(line: &[u8]) -> bool
+    ensures { result ≡ has_order_mark line.now }
+{
+    match line {
+        [first, second, third, ..] => *first == 0xef && *second == 0xbb && *third == 0xbf,
+        _ => false,
+    }
+}
+
+// What to write in place of a byte that is not ASCII.
+#[tactic(auto, unfolding(crate::specs::ByteHint::foreign_hint))]
+fn foreign_hint(line: &[u8]) -> &'static [u8]
+    ensures { result.now ≡ foreign_hint line.now }
+{
+    if has_order_mark(line) {
+        return b"hint: these bytes are a byte order mark: save the text as UTF-8 without one\n";
+    }
+    b"hint: this byte is not ASCII, as a blank, a quote or a minus of a word processor is none\n"
+}
+
 // What to write in place of what begins with a byte of a line and is no token.
 #[tactic(auto, unfolding(crate::specs::ByteHint::byte_hint))]
 fn byte_hint(line: &[u8], byte: u8) -> &'static [u8]
@@ -66,7 +88,7 @@ fn byte_hint(line: &[u8], byte: u8) -> &'static [u8]
         return b"hint: a number is decimal, or has 0x or 0b before it, and is at most 4294967295; no name begins with a digit\n";
     }
     if byte > 127 {
-        return b"hint: this byte is not ASCII, as a blank, a quote or a minus of a word processor is none\n";
+        return foreign_hint(line);
     }
     mark_hint(line, byte)
 }

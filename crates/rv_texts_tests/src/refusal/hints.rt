@@ -33,11 +33,14 @@ const REGISTERS: &str = "\nhint: it takes registers alone: li loads a number int
 
 const COMMA: &str = "\nhint: a comma stands between two operands\n";
 
+const FOREIGN: &str =
+    "\nhint: this byte is not ASCII, as a blank, a quote or a minus of a word processor is none\n";
+
 const ADDRESS: &str =
     "\nhint: an address is in a register: la t0, symbol loads it, and 0(t0) is the word there\n";
 
 // Lines with bytes that are no token, and what to write instead.
-static BYTES: [(&str, &str); 26] = [
+static BYTES: [(&str, &str); 30] = [
     ("nop // again", COMMENT),
     ("nop ; nop", COMMENT),
     ("li a0, 'A'", CHARACTER),
@@ -60,10 +63,14 @@ static BYTES: [(&str, &str); 26] = [
         ".type main, @function",
         "\nhint: a line of .type may be left out, and a comment begins with #\n",
     ),
+    ("li a0,\u{a0}5", FOREIGN),
     (
-        "li a0,\u{a0}5",
-        "\nhint: this byte is not ASCII, as a blank, a quote or a minus of a word processor is none\n",
+        "\u{feff}li a0, 5",
+        "\nhint: these bytes are a byte order mark: save the text as UTF-8 without one\n",
     ),
+    ("\u{ff3f}li a0, 5", FOREIGN),
+    ("\u{fec0}li a0, 5", FOREIGN),
+    ("\u{2eff}li a0, 5", FOREIGN),
     ("li a0, 5\u{7f}", TOKENS),
     ("li a0, 5 % 3", TOKENS),
     ("add %rax, a0, a1", TOKENS),
