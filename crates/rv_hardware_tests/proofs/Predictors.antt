@@ -91,9 +91,8 @@ no_targets (suc entries) (suc place) = no_targets entries place
 
 -- one that was taught nothing keeps none
 pub described_keeps : (kind : PredictorKind) (entries : ℕ) → KeepsAddresses (described kind entries)
-described_keeps kind.NotTaken entries = tt
-described_keeps kind.BackwardTaken entries = tt
 described_keeps kind.Bimodal entries = no_targets entries
+described_keeps _ entries = tt
 
 one_more_target : (targets : List (Option ℕ)) (to next place : ℕ) → next < 2 ^ 32 →
     IsAddress (slice_index_or targets place None) →
@@ -115,7 +114,6 @@ learned_keeps tables pc next flow.Indirect fits have =
 -- a lesson of where the program went on keeps them addresses
 pub taught_keeps : (predictor : DescribedPredictor) (lesson : Lesson) → lesson.next < 2 ^ 32 →
     KeepsAddresses predictor → KeepsAddresses (taught predictor lesson)
-taught_keeps (NotTaken plain) lesson fits keeps = tt
-taught_keeps (BackwardTaken plain) lesson fits keeps = tt
 taught_keeps (Bimodal tables) lesson fits keeps =
     learned_keeps tables lesson.pc lesson.next (flow_at lesson.pc lesson.word) fits keeps
+taught_keeps plain lesson fits keeps = keeps
