@@ -1,9 +1,8 @@
 -- The fetch of the programs is one of the definition, by what their predictor answers.
-use Rattle.rv_hardware.proofs.Words.{◌≡◌, ℕ, zero, suc, ◌<◌, ◌^◌, ◌/◌, ◌*◌, nat_lt, Bool, true, false}
-use Rattle.rv_hardware.proofs.Words.{if◌then◌else◌, MatchBool, [], ◌∷◌, ◌++◌, length, Option, Some, None, is_none}
-use Rattle.rv_hardware.proofs.Words.{append-nil, refl, sym, subst, arith, pc_plus_4, Memory}
-use Rattle.rv_hardware.proofs.Words.{Answers, FetchBuffer, Fetched, FetchesInto, FetchStop, IsFetchedAt, stop_after}
-use Rattle.rv_hardware.proofs.Words.{Halted, Room}
+use Rattle.rv_hardware.proofs.Words.{◌≡◌, ℕ, zero, suc, ◌<◌, ◌^◌, ◌/◌, ◌*◌, nat_lt, Bool, true, false, if◌then◌else◌}
+use Rattle.rv_hardware.proofs.Words.{MatchBool, [], ◌∷◌, ◌++◌, length, Option, Some, None, is_none, append-nil, refl}
+use Rattle.rv_hardware.proofs.Words.{sym, subst, arith, pc_plus_4, Memory, Answers, FetchBuffer, Fetched, FetchesInto}
+use Rattle.rv_hardware.proofs.Words.{FetchStop, IsFetchedAt, stop_after, Halted, Room}
 use Rattle.rv_front.proofs.Fetching.{Fetching, Fetching-all, Fetching-end, Fetching-step}
 use Rattle.rv_front.specs.FetchBuffer.{IsPrediction}
 use Rattle.rv_front.specs.Guide.{Guide, answers_of, guide_by}

@@ -1,7 +1,9 @@
 mod Programs
 mod Fetches
+mod Stale
 mod Runs
 mod Predictors
+mod Reports
 mod Timing
 mod Memory
 mod Squashed

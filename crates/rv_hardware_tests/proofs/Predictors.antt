@@ -1,7 +1,7 @@
 -- What a described predictor answers is an address, where it was taught addresses.
 use Rattle.rv_hardware.proofs.Words.{ℕ, ◌<◌, ◌^◌, Bool, true, false, if◌then◌else◌, IfSome, Option, Some, None, arith}
-use Rattle.rv_hardware.proofs.Words.{nat_le, unwrap_or, pc_plus_4, zero, suc, List, [], ◌∷◌, replicate}
-use Rattle.rv_hardware.proofs.Words.{slice_index_or, slice_set}
+use Rattle.rv_hardware.proofs.Words.{nat_le, unwrap_or, pc_plus_4, zero, suc, List, [], ◌∷◌, replicate, slice_index_or}
+use Rattle.rv_hardware.proofs.Words.{slice_set}
 use Rattle.rv_decode.specs.Decodes.{instruction_of}
 use Rattle.rv_isa.specs.declared.values.PredictorKind.{PredictorKind}
 use Rattle.rv_isa.specs.declared.values.PredictorKind.TheVariants as kind

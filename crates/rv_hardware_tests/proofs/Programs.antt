@@ -2,9 +2,8 @@
 use Rattle.rv_hardware.proofs.Words.{ℕ, zero, suc, ◌+◌, ◌*◌, ◌/◌, nat_lt, Bool, false, if◌then◌else◌, List, [], ◌∷◌}
 use Rattle.rv_hardware.proofs.Words.{◌++◌, length, Option, Some, None, is_none, option_and_then, bytes_of_number}
 use Rattle.rv_hardware.proofs.Words.{pc_plus_4, Kind, Values, with_kind, Early, no_lines, Memory, fetched_word}
-use Rattle.rv_hardware.proofs.Words.{FetchBuffer, Fetched, FetchStop, stop_after}
-use Rattle.rv_hardware.proofs.Words.{Committing, Dispatching, commit_with, execute, Hardware, reset_hardware}
-use Rattle.rv_hardware.proofs.Words.{nat_cmp}
+use Rattle.rv_hardware.proofs.Words.{FetchBuffer, Fetched, FetchStop, stop_after, Committing, Dispatching, commit_with}
+use Rattle.rv_hardware.proofs.Words.{execute, Hardware, reset_hardware, nat_cmp}
 use Rattle.std.specs.FinSet as set
 use Rattle.std.specs.List.{fold}
 use Rattle.rv_isa.specs.Standard.{standard_values}

@@ -1,67 +1,21 @@
 -- Cycles of the programs are those of the definition, where commit finds no stale word, and so there is a run of them.
-use Rattle.rv_hardware.proofs.Words.{◌≡◌, ◌≢◌, ℕ, zero, suc, Bool, true, false, if◌then◌else◌}
-use Rattle.rv_hardware.proofs.Words.{List, [], ◌∷◌, ◌++◌, length, Option, Some, None, refl, sym, ap, no_lines, Lines}
-use Rattle.rv_hardware.proofs.Words.{Committing, commit_turn, commit_turn_of, commit_unless, commit_with, due}
-use Rattle.rv_hardware.proofs.Words.{Ends, GoesOn, Hardware, Report, Turn, followed_by, head_turn}
-use Rattle.rv_hardware.proofs.Words.{repeated, steps_of, with_lines}
+use Rattle.rv_hardware.proofs.Words.{◌≡◌, ℕ, zero, suc, Bool, true, List, [], ◌∷◌, ◌++◌, length, refl, sym, ap}
+use Rattle.rv_hardware.proofs.Words.{no_lines, commit_with, Hardware, Report, steps_of, ◌&&◌, ◌<◌, ◌^◌, nat_lt}
+use Rattle.rv_hardware.proofs.Words.{list_all, ltb-true, and_first, and_second}
 use Rattle.std.specs.FinSet as set
 use Rattle.std.specs.List.{fold}
-use Rattle.rv_arch.specs.declared.outcome.Stop.TheVariants as stop
 use Rattle.rv_front.specs.Guide.{after_lesson}
 use Rattle.rv_front.specs.Lesson.{Lesson}
-use Rattle.rv_rob.specs.declared.entry.Entry.{Entry}
 use Rattle.rv_hardware.specs.Cycle.{report_of}
 use Rattle.rv_hardware.specs.Guided.{GuidedCycles, GuidedHardware, IsGuidedCycle, cycled, ended, guided}
 use Rattle.rv_hardware.specs.Lessons.{lessons_of}
 use Rattle.rv_hardware_tests.proofs.Fetches.{AnswersAddresses, fetches, guide}
-use Rattle.rv_hardware_tests.proofs.Programs.{after_cycle, committing_in, dispatching_in, never, steps_from, taught_in}
-
--- ---- stale words
-
--- the phase does not end at a stale word
-abbrev IsFresh : Committing → Type 0
-IsFresh c = (pc : ℕ) → c.stop ≢ Some (stop.Stale pc)
-
-module _ (rest rest' : Committing → Committing) (alike : (c : Committing) → IsFresh (rest c) → rest c ≡ rest' c) where
-  after_turn : (turn : Turn Committing) → IsFresh (followed_by rest turn) →
-      followed_by rest turn ≡ followed_by rest' turn
-  after_turn (GoesOn c) fresh = alike c fresh
-  after_turn (Ends c) fresh = refl
-
-  by_test : (is_stale : Bool) (pc : ℕ) (c : Committing) (turn : Turn Committing) →
-      IsFresh (followed_by rest (if is_stale then Ends (record c { stop = Some (stop.Stale pc) }) else turn)) →
-      followed_by rest (if is_stale then Ends (record c { stop = Some (stop.Stale pc) }) else turn) ≡
-      followed_by rest' turn
-  by_test true pc c turn fresh = absurd (fresh pc refl)
-  by_test false pc c turn fresh = after_turn turn fresh
-
-  by_entries : (es : List Entry) (c : Committing) → IsFresh (followed_by rest (commit_turn_of set.contains es c)) →
-      followed_by rest (commit_turn_of set.contains es c) ≡ followed_by rest' (commit_turn_of never es c)
-  by_entries [] c fresh = refl
-  by_entries (e ∷ es) c fresh = by_test _ e.pc c (head_turn e e.instruction c) fresh
-
-all_turns : (width : ℕ) (c : Committing) → IsFresh (repeated (commit_turn set.contains) width c) →
-    repeated (commit_turn set.contains) width c ≡ repeated (commit_turn never) width c
-all_turns zero c fresh = refl
-all_turns (suc width) c fresh =
-    by_entries (repeated (commit_turn set.contains) width) (repeated (commit_turn never) width) (all_turns width)
-    c.hardware.rob.entries c fresh
-
-unless_due : (interrupt : Option ℕ) (h : Hardware) → IsFresh (commit_unless set.contains interrupt h) →
-    commit_unless set.contains interrupt h ≡ commit_unless never interrupt h
-unless_due (Some code) h fresh = refl
-unless_due None h fresh = all_turns h.values.commit_width (record { hardware = h; steps = []; stop = None }) fresh
-
--- a commit phase that does not end at a stale word is one in which no word is stale
-pub commits_alike : (lines : Lines) (h : Hardware) → IsFresh (commit_with set.contains lines h) →
-    commit_with set.contains lines h ≡ commit_with never lines h
-commits_alike lines h fresh = unless_due (due h.csrs lines) (with_lines lines h) fresh
+use Rattle.rv_hardware_tests.proofs.Programs.{after_cycle, committing_in, dispatching_in, steps_from, taught_in}
+use Rattle.rv_hardware_tests.proofs.Stale.{HasStored, IsFresh, commits_alike, finds_none, has_after, keeps_apart}
 
 -- a cycle with all lines low does not end at a stale word
 abbrev pub FindsNoStale : Hardware → Type 0
 FindsNoStale h = IsFresh (commit_with set.contains no_lines h)
-
--- ---- cycles
 
 module _ {S : Type 0} (answered : S → ℕ → ℕ → ℕ) (learned : S → Lesson → S) where
   taught_so : (predictor : S) (lessons : List Lesson) →
@@ -93,7 +47,7 @@ module _ {S : Type 0} (answered : S → ℕ → ℕ → ℕ) (learned : S → Le
         learns = sym (taught_so predictor (lessons_of (committing_in h).steps (dispatching_in h).hardware.pc));
         cycle = record {
           committing = committing_in h;
-          commits = sym (commits_alike no_lines h fresh);
+          commits = sym (commits_alike set.contains no_lines h fresh);
           dispatching = dispatching_in h;
           executes = refl;
           fetch_stop = fetched.0;
@@ -110,6 +64,50 @@ module _ {S : Type 0} (answered : S → ℕ → ℕ → ℕ) (learned : S → Le
       let wiser : S = taught_in answered learned predictor h in
       FindsNoStale h × AnswersAddresses answered learned wiser ×
       AreCycles cycles wiser (after_cycle answered learned predictor h)
+
+  -- whether each lesson of a cycle is that the program went on at an address
+  abbrev pub lead_to_addresses : S → Hardware → Bool
+  lead_to_addresses predictor h =
+      list_all (λ (lesson : Lesson). nat_lt lesson.next (2 ^ 32))
+      (lessons_of (committing_in h).steps (dispatching_in h).hardware.pc)
+
+  -- whether so many cycles store to these words alone, find no head at one of them, and teach addresses
+  abbrev pub keep_apart : List ℕ → ℕ → S → Hardware → Bool
+  keep_apart stored zero predictor h = true
+  keep_apart stored (suc cycles) predictor h =
+      keeps_apart stored h && (lead_to_addresses predictor h
+      && keep_apart stored cycles (taught_in answered learned predictor h) (after_cycle answered learned predictor h))
+
+  module _ (IsSound : S → Type 0)
+      (addresses : (predictor : S) → IsSound predictor → AnswersAddresses answered learned predictor)
+      (kept : (predictor : S) (lesson : Lesson) → lesson.next < 2 ^ 32 → IsSound predictor →
+      IsSound (learned predictor lesson)) where
+    all_kept : (predictor : S) (lessons : List Lesson) →
+        list_all (λ (lesson : Lesson). nat_lt lesson.next (2 ^ 32)) lessons ≡ true → IsSound predictor →
+        IsSound (fold learned predictor lessons)
+    all_kept predictor [] all sound = sound
+    all_kept predictor (lesson ∷ lessons) all sound =
+        all_kept (learned predictor lesson) lessons (and_second (nat_lt lesson.next (2 ^ 32)) _ all)
+        (kept predictor lesson (ltb-true lesson.next (2 ^ 32) (and_first (nat_lt lesson.next (2 ^ 32)) _ all)) sound)
+
+    -- then each of them is the definition's, where addresses alone lead to answers that are addresses
+    pub are_cycles : (stored : List ℕ) (cycles : ℕ) (predictor : S) (h : Hardware) → IsSound predictor →
+        HasStored stored h.stale → keep_apart stored cycles predictor h ≡ true → AreCycles cycles predictor h
+    are_cycles stored zero predictor h sound has apart = tt
+    are_cycles stored (suc cycles) predictor h sound has apart =
+        let wiser : S = taught_in answered learned predictor h in
+        let next : Hardware = after_cycle answered learned predictor h in
+        let now : keeps_apart stored h ≡ true = and_first (keeps_apart stored h) _ apart in
+        let later : (lead_to_addresses predictor h && keep_apart stored cycles wiser next) ≡ true =
+        and_second (keeps_apart stored h) _ apart in
+        let lessons : List Lesson = lessons_of (committing_in h).steps (dispatching_in h).hardware.pc in
+        let still : IsSound wiser =
+        all_kept predictor lessons (and_first (lead_to_addresses predictor h) _ later) sound in (
+          finds_none stored h has now,
+          addresses wiser still,
+          are_cycles stored cycles wiser next still (has_after stored h has now)
+              (and_second (lead_to_addresses predictor h) _ later),
+        )
 
   -- a run of the definition that reports the steps of so many cycles of a program
   pub record IsRun (cycles : ℕ) (predictor : S) (h : Hardware) : Type 0 where

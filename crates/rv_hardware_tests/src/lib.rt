@@ -1,3 +1,3 @@
-//! What the definition of the hardware computes of short programs, and that runs of the definition report just that. It is
-//! all in `proofs/`.
+//! What the definition of the hardware computes of short programs, and that runs of the definition report just that.
+//! All of it stands in `proofs/`.
 #![tactic(auto)]
