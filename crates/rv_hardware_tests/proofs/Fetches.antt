@@ -2,7 +2,8 @@
 use Rattle.rv_hardware.proofs.Words.{◌≡◌, ℕ, zero, suc, ◌<◌, ◌^◌, ◌/◌, ◌*◌, nat_lt, Bool, true, false, if◌then◌else◌}
 use Rattle.rv_hardware.proofs.Words.{MatchBool, [], ◌∷◌, ◌++◌, length, Option, Some, None, is_none, append-nil, refl}
 use Rattle.rv_hardware.proofs.Words.{sym, subst, arith, pc_plus_4, Memory, Answers, FetchBuffer, Fetched, FetchesInto}
-use Rattle.rv_hardware.proofs.Words.{FetchStop, IsFetchedAt, stop_after, Halted, Room}
+use Rattle.rv_hardware.proofs.Words.{◌==◌, stop_for, Prediction, FetchStop, IsFetchedAt, stop_after, Halted}
+use Rattle.rv_hardware.proofs.Words.{Room}
 use Rattle.rv_front.proofs.Fetching.{Fetching, Fetching-all, Fetching-end, Fetching-step}
 use Rattle.rv_front.specs.FetchBuffer.{IsPrediction}
 use Rattle.rv_front.specs.Guide.{Guide, answers_of, guide_by}
@@ -10,7 +11,7 @@ use Rattle.rv_front.specs.Lesson.{Lesson}
 use Rattle.rv_front.specs.OneWord.{FetchesOne}
 use Rattle.rv_front.specs.declared.fetched.FetchStop.TheVariants.{Width}
 use Rattle.rv_hardware.proofs.AnyPrediction.{IntoBy}
-use Rattle.rv_hardware_tests.proofs.Programs.{after_fetch, guess_at, next_word, unless_ended, with_word, with_words}
+use Rattle.rv_hardware_tests.proofs.Programs.{after_fetch, guess_at, next_word, is_last, with_word, with_words}
 
 module _ {S : Type 0} (answered : S → ℕ → ℕ → ℕ) (learned : S → Lesson → S) where
   -- what is known of a predictor in this state
@@ -72,27 +73,37 @@ module _ {S : Type 0} (answered : S → ℕ → ℕ → ℕ) (learned : S → Le
     abbrev Leads : FetchBuffer → FetchBuffer → Type 0
     Leads old new = (stop : FetchStop) × FetchesInto answers ram cycle old new stop
 
-    after_word : (width : ℕ) (old now more : FetchBuffer) (stop : Option FetchStop) → old.halted ≡ false →
-        nat_lt (length now.entries) now.capacity ≡ true → stop_after (word_after now) ≡ stop →
+    after_word : (width : ℕ) (old now more : FetchBuffer) (word : Option ℕ) (is_next : Bool) → old.halted ≡ false →
+        nat_lt (length now.entries) now.capacity ≡ true → stop_after (word_after now) ≡ stop_for word is_next →
         Fetching answers ram cycle old (suc width) now →
         (Fetching answers ram cycle old width (with_word now (word_after now)) → Leads old more) →
-        Leads old (unless_ended stop more (with_word now (word_after now)))
-    after_word width old now more None runs room is f rest =
+        Leads old (if is_last word is_next then with_word now (word_after now) else more)
+    after_word width old now more None is_next runs room is f rest = (
+      Halted,
+      Fetching-end answers ram cycle old now (with_word now (word_after now)) (suc width) width Halted runs refl
+          f (fetches_one now (Some Halted) room is),
+    )
+    after_word width old now more (Some word) true runs room is f rest =
         rest (Fetching-step answers ram cycle old now (with_word now (word_after now)) (suc width) width refl f
         (fetches_one now None room is))
-    after_word width old now more (Some stop) runs room is f rest = (
-      stop,
-      Fetching-end answers ram cycle old now (with_word now (word_after now)) (suc width) width stop runs refl f
-          (fetches_one now (Some stop) room is),
+    after_word width old now more (Some word) false runs room is f rest = (
+      Prediction,
+      Fetching-end answers ram cycle old now (with_word now (word_after now)) (suc width) width Prediction
+          runs refl f (fetches_one now (Some Prediction) room is),
     )
 
     by_room : (width : ℕ) (old now more : FetchBuffer) (has_room : Bool) → old.halted ≡ false →
         nat_lt (length now.entries) now.capacity ≡ has_room → Fetching answers ram cycle old (suc width) now →
         (Fetching answers ram cycle old width (with_word now (word_after now)) → Leads old more) →
         Leads old
-        (if has_room then unless_ended (stop_after (word_after now)) more (with_word now (word_after now)) else now)
+        (if has_room
+        then (if is_last (word_after now).word ((word_after now).predicted == pc_plus_4 (word_after now).pc)
+        then with_word now (word_after now)
+        else more)
+        else now)
     by_room width old now more true runs room f rest =
-        after_word width old now more (stop_after (word_after now)) runs room refl f rest
+        after_word width old now more (word_after now).word
+        ((word_after now).predicted == pc_plus_4 (word_after now).pc) runs room refl f rest
     by_room width old now more false runs full f rest =
         (Room, Fetching-end answers ram cycle old now now (suc width) width Room runs refl f (fetches_none now full))
 

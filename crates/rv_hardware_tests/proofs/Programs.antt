@@ -2,7 +2,7 @@
 use Rattle.rv_hardware.proofs.Words.{ℕ, zero, suc, ◌+◌, ◌*◌, ◌/◌, nat_lt, Bool, false, if◌then◌else◌, List, [], ◌∷◌}
 use Rattle.rv_hardware.proofs.Words.{◌++◌, length, Option, Some, None, is_none, option_and_then, bytes_of_number}
 use Rattle.rv_hardware.proofs.Words.{pc_plus_4, Kind, Values, with_kind, Early, no_lines, Memory, fetched_word}
-use Rattle.rv_hardware.proofs.Words.{FetchBuffer, Fetched, FetchStop, stop_after, Committing, Dispatching, commit_with}
+use Rattle.rv_hardware.proofs.Words.{FetchBuffer, Fetched, ◌==◌, ◌||◌, not, Committing, Dispatching, commit_with}
 use Rattle.rv_hardware.proofs.Words.{execute, Hardware, reset_hardware, nat_cmp}
 use Rattle.std.specs.FinSet as set
 use Rattle.std.specs.List.{fold}
@@ -20,10 +20,9 @@ use Rattle.rv_hardware.specs.declared.step.Step.TheVariants.{Retired, Trap}
 abbrev pub never : set.FinSet nat_cmp → ℕ → Bool
 never words word = false
 
--- what goes on after a word: nothing where it ends the fetch
-abbrev pub unless_ended : Option FetchStop → FetchBuffer → FetchBuffer → FetchBuffer
-unless_ended None more last = more
-unless_ended (Some stop) more last = last
+-- a fetch ends with a word that RAM does not have, or after which another address than the next is predicted
+abbrev pub is_last : Option ℕ → Bool → Bool
+is_last word is_next = is_none word || not is_next
 
 -- the buffer with one more word
 abbrev pub with_word : FetchBuffer → Fetched → FetchBuffer
@@ -67,7 +66,9 @@ module _ {S : Type 0} (answered : S → ℕ → ℕ → ℕ) (learned : S → Le
       let word : Fetched = next_word predictor ram cycle front in
       let next : FetchBuffer = with_word front word in
       if nat_lt (length front.entries) front.capacity
-      then unless_ended (stop_after word) (with_words predictor ram cycle width next) next
+      then (if is_last word.word (word.predicted == pc_plus_4 word.pc)
+      then next
+      else with_words predictor ram cycle width next)
       else front
 
   -- a cycle's fetch
