@@ -1,5 +1,6 @@
 -- What to write in place of bytes that are no token.
-use Rattle.std.specs.Prelude.{ℕ, ◌==◌, ◌&&◌, ◌||◌, Bool, false, not, List, [], ◌∷◌, codes, if◌then◌else◌, is_some, length, nat_lt}
+use Rattle.std.specs.Prelude.{ℕ, ◌==◌, ◌&&◌, ◌||◌, Bool, false, not, List, [], ◌∷◌, codes, if◌then◌else◌, is_some}
+use Rattle.std.specs.Prelude.{length, nat_lt}
 use Rattle.std.specs.{Char.is_ascii_digit, List.list_any, List.slice_get, Option.option_map_or}
 use Rattle.rv_refusal.specs.Caret.{token_place}
 use Rattle.rv_refusal.specs.NameOn.{goes_on_with, key_on}
