@@ -2,8 +2,7 @@
 use Rattle.rv_hardware.proofs.Words.{◌≡◌, ℕ, zero, suc, ◌<◌, ◌^◌, ◌/◌, ◌*◌, nat_lt, Bool, true, false, if◌then◌else◌}
 use Rattle.rv_hardware.proofs.Words.{MatchBool, [], ◌∷◌, ◌++◌, length, Option, Some, None, is_none, append-nil, refl}
 use Rattle.rv_hardware.proofs.Words.{sym, subst, arith, pc_plus_4, Memory, Answers, FetchBuffer, Fetched, FetchesInto}
-use Rattle.rv_hardware.proofs.Words.{◌==◌, stop_for, Prediction, FetchStop, IsFetchedAt, stop_after, Halted}
-use Rattle.rv_hardware.proofs.Words.{Room}
+use Rattle.rv_hardware.proofs.Words.{◌==◌, stop_for, Prediction, FetchStop, IsFetchedAt, stop_after, Halted, Room}
 use Rattle.rv_front.proofs.Fetching.{Fetching, Fetching-all, Fetching-end, Fetching-step}
 use Rattle.rv_front.specs.FetchBuffer.{IsPrediction}
 use Rattle.rv_front.specs.Guide.{Guide, answers_of, guide_by}

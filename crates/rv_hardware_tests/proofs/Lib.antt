@@ -7,3 +7,4 @@ mod Reports
 mod Timing
 mod Memory
 mod Squashed
+mod Predictions

@@ -9,15 +9,14 @@ use Rattle.rv_isa.specs.declared.instructions.Instr.{Instr}
 use Rattle.rv_isa.specs.declared.instructions.Instr.TheVariants.{Branch, Jal, Jalr}
 use Rattle.rv_front.specs.Flow.{flow_after, flow_at, flow_of}
 use Rattle.rv_front.specs.Lesson.{Lesson}
-use Rattle.rv_front.specs.Predictors.{answer, counter_at, described, learned, place_of, predicted, tables_of, taught}
-use Rattle.rv_front.specs.Predictors.{target_at}
+use Rattle.rv_front.specs.Predictors.{counter_at, described, learned, place_of, predicted, tables_of, taught, target_at}
 use Rattle.rv_front.specs.Tables.{Tables}
 use Rattle.rv_front.specs.declared.flow.Flow.{Flow}
 use Rattle.rv_front.specs.declared.flow.Flow.TheVariants as flow
 use Rattle.rv_front.specs.declared.predictors.DescribedPredictor.{DescribedPredictor}
 use Rattle.rv_front.specs.declared.predictors.DescribedPredictor.TheVariants.{BackwardTaken, Bimodal, NotTaken}
 use Rattle.rv_hardware_tests.proofs.Fetches.{AnswersAddresses}
-use Rattle.rv_hardware_tests.proofs.Programs.{straight_ahead, unchanged}
+use Rattle.rv_hardware_tests.proofs.Programs.{described_answer, straight_ahead, unchanged}
 
 -- the next word's address is one
 pub straight_addresses : AnswersAddresses straight_ahead unchanged tt
@@ -68,10 +67,6 @@ HaveAddresses tables = (place : ℕ) → IsAddress (slice_index_or tables.target
 -- each target that the predictor was taught is one
 abbrev pub KeepsAddresses : DescribedPredictor → Type 0
 KeepsAddresses predictor = IfSome (tables_of predictor) HaveAddresses
-
--- what it answers for the word at a pc
-abbrev pub described_answer : DescribedPredictor → ℕ → ℕ → ℕ
-described_answer predictor pc word = answer predictor pc (flow_at pc word)
 
 -- a described predictor whose targets are addresses answers with addresses
 pub described_addresses : (predictor : DescribedPredictor) → KeepsAddresses predictor →

@@ -3,7 +3,7 @@ use Rattle.rv_hardware.proofs.Words.{ℕ, zero, suc, ◌+◌, ◌*◌, ◌/◌, 
 use Rattle.rv_hardware.proofs.Words.{◌++◌, length, Option, Some, None, is_none, option_and_then, bytes_of_number}
 use Rattle.rv_hardware.proofs.Words.{pc_plus_4, Kind, Values, with_kind, Early, no_lines, Memory, fetched_word}
 use Rattle.rv_hardware.proofs.Words.{FetchBuffer, Fetched, ◌==◌, ◌||◌, not, Committing, Dispatching, commit_with}
-use Rattle.rv_hardware.proofs.Words.{execute, Hardware, reset_hardware, nat_cmp}
+use Rattle.rv_hardware.proofs.Words.{execute, Hardware, nat_cmp}
 use Rattle.std.specs.FinSet as set
 use Rattle.std.specs.List.{fold}
 use Rattle.rv_isa.specs.Standard.{standard_values}
@@ -11,7 +11,12 @@ use Rattle.rv_isa.specs.declared.causes.Cause.TheVariants.{Breakpoint}
 use Rattle.rv_isa.specs.declared.values.KindValues.{KindValues}
 use Rattle.rv_decode.specs.Decodes.{instruction_of}
 use Rattle.rv_front.specs.Lesson.{Lesson}
+use Rattle.rv_front.specs.Flow.{flow_at}
+use Rattle.rv_front.specs.Predictors.{answer}
+use Rattle.rv_front.specs.declared.predictors.DescribedPredictor.{DescribedPredictor}
+use Rattle.rv_hardware.specs.Dispatch.{stall_of}
 use Rattle.rv_hardware.specs.Lessons.{lessons_of}
+use Rattle.rv_hardware.specs.declared.report.Stall.{Stall}
 use Rattle.rv_hardware.specs.declared.step.Execution.{Execution}
 use Rattle.rv_hardware.specs.declared.step.Step.{Step}
 use Rattle.rv_hardware.specs.declared.step.Step.TheVariants.{Retired, Trap}
@@ -94,6 +99,12 @@ module _ {S : Type 0} (answered : S → ℕ → ℕ → ℕ) (learned : S → Le
   steps_from (suc cycles) predictor h =
       (committing_in h).steps ++ steps_from cycles (taught_in predictor h) (after_cycle predictor h)
 
+  -- why each of so many cycles dispatched nothing
+  abbrev pub reasons_from : ℕ → S → Hardware → List (Option Stall)
+  reasons_from zero predictor h = []
+  reasons_from (suc cycles) predictor h =
+      stall_of (dispatching_in h) ∷ reasons_from cycles (taught_in predictor h) (after_cycle predictor h)
+
 -- words in memory
 abbrev pub in_memory : List ℕ → List ℕ
 in_memory [] = []
@@ -106,14 +117,9 @@ straight_ahead predictor pc word = pc_plus_4 pc
 abbrev pub unchanged : Unit {0} → Lesson → Unit {0}
 unchanged predictor lesson = predictor
 
--- the steps of so many cycles of a program that stands, and starts, at an address
-abbrev pub steps_at : ℕ → Values → List ℕ → ℕ → List Step
-steps_at start values words cycles =
-    steps_from straight_ahead unchanged cycles tt (reset_hardware values (in_memory words) start)
-
--- those of a program at address 0x8000_0000
-abbrev pub steps_of : Values → List ℕ → ℕ → List Step
-steps_of values words cycles = steps_at 0x8000_0000 values words cycles
+-- what a described predictor answers for the word at a pc
+abbrev pub described_answer : DescribedPredictor → ℕ → ℕ → ℕ
+described_answer predictor pc word = answer predictor pc (flow_at pc word)
 
 -- the standard machine with a smaller RAM, which the programs do not leave
 abbrev pub machine : Values

@@ -1,16 +1,18 @@
 -- Cycles of the programs are those of the definition, where commit finds no stale word, and so there is a run of them.
 use Rattle.rv_hardware.proofs.Words.{◌≡◌, ℕ, zero, suc, Bool, true, List, [], ◌∷◌, ◌++◌, length, refl, sym, ap}
 use Rattle.rv_hardware.proofs.Words.{no_lines, commit_with, Hardware, Report, steps_of, ◌&&◌, ◌<◌, ◌^◌, nat_lt}
-use Rattle.rv_hardware.proofs.Words.{list_all, ltb-true, and_first, and_second}
+use Rattle.rv_hardware.proofs.Words.{list_all, ltb-true, and_first, and_second, map}
 use Rattle.std.specs.FinSet as set
 use Rattle.std.specs.List.{fold}
 use Rattle.rv_front.specs.Guide.{after_lesson}
 use Rattle.rv_front.specs.Lesson.{Lesson}
 use Rattle.rv_hardware.specs.Cycle.{report_of}
+use Rattle.rv_hardware.specs.Dispatch.{stall_of}
 use Rattle.rv_hardware.specs.Guided.{GuidedCycles, GuidedHardware, IsGuidedCycle, cycled, ended, guided}
 use Rattle.rv_hardware.specs.Lessons.{lessons_of}
 use Rattle.rv_hardware_tests.proofs.Fetches.{AnswersAddresses, fetches, guide}
-use Rattle.rv_hardware_tests.proofs.Programs.{after_cycle, committing_in, dispatching_in, steps_from, taught_in}
+use Rattle.rv_hardware_tests.proofs.Programs.{after_cycle, committing_in, dispatching_in, reasons_from, steps_from}
+use Rattle.rv_hardware_tests.proofs.Programs.{taught_in}
 use Rattle.rv_hardware_tests.proofs.Stale.{HasStored, IsFresh, commits_alike, finds_none, has_after, keeps_apart}
 
 -- a cycle with all lines low does not end at a stale word
@@ -116,11 +118,12 @@ module _ {S : Type 0} (answered : S → ℕ → ℕ → ℕ) (learned : S → Le
     pub run : GuidedCycles [] (guided_by predictor h) reports last
     pub count : length reports ≡ cycles
     pub steps : steps_of reports ≡ steps_from answered learned cycles predictor h
+    pub reasons : map (λ (r : Report). r.stall) reports ≡ reasons_from answered learned cycles predictor h
 
   -- there is one, where the cycles are the definition's
   pub is_run : (cycles : ℕ) (predictor : S) (h : Hardware) → AreCycles cycles predictor h → IsRun cycles predictor h
   is_run zero predictor h are =
-      record { reports = []; last = guided_by predictor h; run = ended; count = refl; steps = refl }
+      record { reports = []; last = guided_by predictor h; run = ended; count = refl; steps = refl; reasons = refl }
   is_run (suc cycles) predictor h (fresh, addresses, more) =
       let wiser : S = taught_in answered learned predictor h in
       let further = is_run cycles wiser (after_cycle answered learned predictor h) more in
@@ -130,4 +133,5 @@ module _ {S : Type 0} (answered : S → ℕ → ℕ → ℕ) (learned : S → Le
         run = cycled (is_cycle predictor h fresh addresses) further.run;
         count = ap suc further.count;
         steps = ap (λ steps. (committing_in h).steps ++ steps) further.steps;
+        reasons = ap (λ reasons. stall_of (dispatching_in h) ∷ reasons) further.reasons;
       }
