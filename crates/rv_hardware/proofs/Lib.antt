@@ -1,4 +1,3 @@
-mod Rows
 pub mod Tests
 pub mod Each
 pub mod Lists
