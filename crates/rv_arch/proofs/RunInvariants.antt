@@ -27,9 +27,15 @@ pub record Steps (arrivals : List Arrival) (stamp : ℕ) (old new : Machine) (ou
   pub lines : new.lines ≡ lines_at arrivals stamp
 
 -- a step with the lines of a stamp, which leaves the layout and holds those lines, is one of the machine
-pub steps_by : (arrivals : List Arrival) (stamp : ℕ) (old new : Machine) {outcome : RefStep} {lines : Lines} → lines ≡ lines_at arrivals stamp →
-    Step old.layout old.state lines outcome new.state → new.layout ≡ old.layout → new.lines ≡ lines → Steps arrivals stamp old new outcome
-steps_by arrivals stamp old new levels step layout lines = record { step = rw levels at step; layout = layout; lines = lines ∙ levels }
+pub steps_by : (arrivals : List Arrival) (stamp : ℕ) (old new : Machine) {outcome : RefStep} {lines : Lines} →
+    lines ≡ lines_at arrivals stamp →
+    Step old.layout old.state lines outcome new.state → new.layout ≡ old.layout → new.lines ≡ lines →
+    Steps arrivals stamp old new outcome
+steps_by arrivals stamp old new levels step layout lines = record {
+  step = rw levels at step;
+  layout = layout;
+  lines = lines ∙ levels;
+}
 
 -- the machine went through these stamps, with these outcomes
 pub record Went (arrivals : List Arrival) (stamps : List ℕ) (outcomes : List RefStep) (old new : Machine) : Type 0 where
@@ -41,7 +47,8 @@ pub record Went (arrivals : List Arrival) (stamps : List ℕ) (outcomes : List R
 pub went_nowhere : (arrivals : List Arrival) (m : Machine) → Went arrivals [] [] m m
 went_nowhere arrivals m = record { run = ended; layout = refl; lines = refl }
 
-module _ {arrivals : List Arrival} {stamps : List ℕ} {outcomes : List RefStep} {old mid new : Machine} {stamp : ℕ} {outcome : RefStep}
+module _ {arrivals : List Arrival} {stamps : List ℕ} {outcomes : List RefStep} {old mid new : Machine}
+    {stamp : ℕ} {outcome : RefStep}
     (before : Went arrivals stamps outcomes old mid) (now : Steps arrivals stamp mid new outcome) where
   -- a step more that finds no stale word, and the machine went through one stamp more
   pub went_more : is_stale outcome ≡ false → Went arrivals (stamps ++ stamp ∷ []) (outcomes ++ outcome ∷ []) old new
@@ -56,7 +63,8 @@ module _ {arrivals : List Arrival} {stamps : List ℕ} {outcomes : List RefStep}
   went_to_stale found = rw (stale_keeps now.step found) before.run
 
   -- a step that finds a stale word can be taken again, and finds it at the same address
-  pub again_stale : is_stale outcome ≡ true → Step old.layout new.state (lines_at arrivals stamp) (step.Stale new.state.pc) new.state
+  pub again_stale : is_stale outcome ≡ true →
+      Step old.layout new.state (lines_at arrivals stamp) (step.Stale new.state.pc) new.state
   again_stale found = rw (← before.layout) (stale_again now.step found)
 
   -- a step that finds a stale word can be taken again, with the same outcome
@@ -84,7 +92,8 @@ pub record IsCounted (arrivals : List Arrival) (steps : ℕ) (old new : Machine)
 
 -- before any step, nothing is counted
 pub counted_none : (arrivals : List Arrival) (m : Machine) (counts : RefOutcome) →
-    counts ≡ record { steps = 0; retired = 0; traps = 0; interrupts = 0; stop = stop.Limit } → IsCounted arrivals 0 m m counts
+    counts ≡ record { steps = 0; retired = 0; traps = 0; interrupts = 0; stop = stop.Limit } →
+    IsCounted arrivals 0 m m counts
 counted_none arrivals m counts e = record {
   outcomes = [];
   went = went_nowhere arrivals m;
@@ -113,7 +122,8 @@ one_at_most false = omega arith
 
 unbroken_more : (outcomes : List RefStep) (outcome : RefStep) → list_any is_breakpoint outcomes ≡ false →
     is_breakpoint outcome ≡ false → HasNoBreakpoint (outcomes ++ outcome ∷ [])
-unbroken_more outcomes outcome before now = list_any-append is_breakpoint outcomes (outcome ∷ []) ∙ rw (before, now) refl
+unbroken_more outcomes outcome before now = list_any-append is_breakpoint outcomes (outcome ∷ [])
+    ∙ rw (before, now) refl
 
 module _ {arrivals : List Arrival} {n : ℕ} {old mid new : Machine} {outcome : RefStep} {counts counts' : RefOutcome}
     (before : IsCounted arrivals n old mid counts) (now : Steps arrivals n mid new outcome) where
@@ -149,7 +159,16 @@ module _ {arrivals : List Arrival} {n : ℕ} {old mid new : Machine} {outcome : 
         retired = omega (arith, count_of_more is_retired before.outcomes outcome);
         traps = omega (arith, count_of_more is_trap before.outcomes outcome);
         interrupts = omega (arith, count_of_more is_interrupt before.outcomes outcome);
-        stop = (record { earlier = before.outcomes; last = outcome; all = refl; breaks = broken; first = before.unbroken }, omega arith);
+        stop = (
+          record {
+            earlier = before.outcomes;
+            last = outcome;
+            all = refl;
+            breaks = broken;
+            first = before.unbroken;
+          },
+          omega arith,
+        );
         layout = went.layout;
         lines = rw (taken, range_more) went.lines;
       }

@@ -16,7 +16,8 @@ use Rattle.rv_arch.specs.Step.{Step}
 -- a run and one more step from its end, whose outcome is not stale, are a run
 pub run_more : {layout : Layout} {arrivals : List Arrival} {s t u : State} {stamps : List ℕ} {outcomes : List RefStep}
     (stamp : ℕ) {outcome : RefStep} →
-    Run layout arrivals s stamps outcomes t → Step layout t (lines_at arrivals stamp) outcome u → is_stale outcome ≡ false →
+    Run layout arrivals s stamps outcomes t → Step layout t (lines_at arrivals stamp) outcome u →
+    is_stale outcome ≡ false →
     Run layout arrivals s (stamps ++ stamp ∷ []) (outcomes ++ outcome ∷ []) u
 run_more stamp ended step fresh = stepped step fresh ended
 run_more stamp (stepped first first_fresh rest) step fresh = stepped first first_fresh (run_more stamp rest step fresh)
@@ -31,7 +32,8 @@ count_of_more test (o ∷ outcomes) outcome = omega (arith, count_of_more test o
 pub lines_through_more : (arrivals : List Arrival) (before : Lines) (stamps : List ℕ) (stamp : ℕ) →
     lines_through arrivals before (stamps ++ stamp ∷ []) ≡ lines_at arrivals stamp
 lines_through_more arrivals before [] stamp = refl
-lines_through_more arrivals before (first ∷ stamps) stamp = lines_through_more arrivals (lines_at arrivals first) stamps stamp
+lines_through_more arrivals before (first ∷ stamps) stamp =
+    lines_through_more arrivals (lines_at arrivals first) stamps stamp
 
 -- the numbers below n + 1 are those below n, then n
 pub range_more : (n : ℕ) → range_with_len 0 (n + 1) ≡ range_with_len 0 n ++ n ∷ []

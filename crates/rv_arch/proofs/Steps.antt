@@ -17,7 +17,8 @@ use Rattle.rv_arch.specs.Step.{Step, IsFetched, trap_taken, word_at_pc, stale, i
 
 module _ (layout : Layout) (s : State) (lines : Lines) where
   -- a step is one to whatever outcome and state are equal to its own
-  pub same_step : {o o' : RefStep} {t t' : State} → o' ≡ o → t' ≡ t → Step layout s lines o t → Step layout s lines o' t'
+  pub same_step : {o o' : RefStep} {t t' : State} → o' ≡ o → t' ≡ t → Step layout s lines o t →
+      Step layout s lines o' t'
   same_step p q step = rw p (rw q step)
 
   -- a fetched word that is no instruction traps, with the word as the value of the trap
@@ -26,7 +27,8 @@ module _ (layout : Layout) (s : State) (lines : Lines) where
   illegal_at fetched word at none = rw at (illegal fetched (rw at at none))
 
   -- a fetched instruction whose effect is a fault traps with the cause and the value of that fault
-  pub faulted_at : IsFetched layout s lines → (word : ℕ) → word ≡ word_at_pc layout s → (instruction : Instr) → Decodes word instruction →
+  pub faulted_at : IsFetched layout s lines → (word : ℕ) → word ≡ word_at_pc layout s → (instruction : Instr) →
+      Decodes word instruction →
       (cause : Cause) (value : ℕ) → effect layout s lines word instruction ≡ Faults cause value →
       Step layout s lines (Trap s.pc cause value) (trap_taken s (code_of cause) value)
   faulted_at fetched word at instruction decoded cause value faults =
@@ -41,13 +43,16 @@ module _ (layout : Layout) (s : State) (lines : Lines) where
       rw (here, at) (retired fetched instruction (rw at at decoded) written next (rw at at retires))
 
 -- a step that finds a stale word changes nothing, and finds it again
-pub stale_keeps : {layout : Layout} {s t : State} {lines : Lines} {o : RefStep} → Step layout s lines o t → is_stale o ≡ true → t ≡ s
+pub stale_keeps : {layout : Layout} {s t : State} {lines : Lines} {o : RefStep} → Step layout s lines o t →
+    is_stale o ≡ true → t ≡ s
 stale_keeps (stale due inside marked) found = refl
 stale_keeps _ found = cc
 
 -- the state that a stale outcome leaves has a step with that outcome, and stays
-pub stale_once : {layout : Layout} {s t : State} {lines : Lines} {o : RefStep} → Step layout s lines o t → is_stale o ≡ true → Step layout t lines o t
-stale_once {layout} {s} {t} {lines} {o} step found = subst (λ u. Step layout u lines o t) (sym (stale_keeps step found)) step
+pub stale_once : {layout : Layout} {s t : State} {lines : Lines} {o : RefStep} → Step layout s lines o t →
+    is_stale o ≡ true → Step layout t lines o t
+stale_once {layout} {s} {t} {lines} {o} step found =
+    subst (λ u. Step layout u lines o t) (sym (stale_keeps step found)) step
 
 -- the state that a stale outcome leaves has a step that finds a stale word at its pc, and stays
 pub stale_again : {layout : Layout} {s t : State} {lines : Lines} {o : RefStep} → Step layout s lines o t →

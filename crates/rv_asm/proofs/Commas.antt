@@ -20,8 +20,10 @@ module _ (tokens : List Token) (size : ℕ) (size_is : size ≡ position_or_len 
       ≡ map token_of (take size tokens) ∷ slice_split is_comma (map token_of (drop (size + 1) tokens))
   cut_at_comma within =
       slice_split_first is_comma (map token_of tokens) spec.Comma (omega (arith, size_is, length-map tokens token_of))
-      ∙ ap (λ first. first ∷ slice_split is_comma (drop (position_or_len is_comma (map token_of tokens) + 1) (map token_of tokens))) before_comma
-      ∙ ap (λ n. map token_of (take size tokens) ∷ slice_split is_comma (drop (n + 1) (map token_of tokens))) (sym size_is)
+      ∙ ap (λ first. first ∷ slice_split is_comma
+      (drop (position_or_len is_comma (map token_of tokens) + 1) (map token_of tokens))) before_comma
+      ∙ ap (λ n. map token_of (take size tokens)
+      ∷ slice_split is_comma (drop (n + 1) (map token_of tokens))) (sym size_is)
       ∙ ap (λ rest. map token_of (take size tokens) ∷ slice_split is_comma rest) (drop-map token_of (size + 1) tokens)
 
   -- without a comma there is one piece

@@ -28,20 +28,25 @@ taken_next (Some o) None = sym (and_false (takes place.Value o))
 taken_next (Some o) (Some rest) = refl
 
 -- each piece is an expression where all are read and each is one
-taken : (pieces : List (List spec.Token)) → option_map_or (list_all (takes place.Value)) (operands_in pieces) false ≡ list_all is_value pieces
+taken : (pieces : List (List spec.Token)) → option_map_or (list_all (takes place.Value)) (operands_in pieces) false
+    ≡ list_all is_value pieces
 taken [] = refl
-taken (piece ∷ pieces) = taken_next (operand piece) (operands_in pieces) ∙ ap (λ others. is_value piece && others) (taken pieces)
+taken (piece ∷ pieces) = taken_next (operand piece) (operands_in pieces)
+    ∙ ap (λ others. is_value piece && others) (taken pieces)
 
-read_one : (found : Option Operand) → option_map_or (takes place.Value) found false ≡ true → found ≡ Some (unwrap_or found (Value (Number (pos 0))))
+read_one : (found : Option Operand) → option_map_or (takes place.Value) found false ≡ true →
+    found ≡ Some (unwrap_or found (Value (Number (pos 0))))
 read_one None is = absurd (cc)
 read_one (Some o) is = refl
 
-all_read : (pieces : List (List spec.Token)) → list_all is_value pieces ≡ true → operands_in pieces ≡ Some (map datum pieces)
+all_read : (pieces : List (List spec.Token)) → list_all is_value pieces ≡ true →
+    operands_in pieces ≡ Some (map datum pieces)
 all_read [] all = refl
 all_read (piece ∷ pieces) all =
     let here : is_value piece ≡ true = grind arith in
     let others : list_all is_value pieces ≡ true = grind arith in
-    ap (λ found. option_and_then (λ first. option_map (λ rest. first ∷ rest) (operands_in pieces)) found) (read_one (operand piece) here)
+    ap (λ found. option_and_then (λ first. option_map (λ rest. first ∷ rest) (operands_in pieces)) found)
+    (read_one (operand piece) here)
     ∙ ap (option_map (λ rest. datum piece ∷ rest)) (all_read pieces others)
 
 refused : (width : Width) (read : Option (List Operand)) →
@@ -77,5 +82,6 @@ data_taken width (first ∷ others) all =
     let pieces = slice_split is_comma (map token_of (first ∷ others)) in
     let read = all_read pieces all in
     ap (λ r. and_then (ok_or r BadOperands) (statement (form.Values width))) read
-    ∙ accepted width (map datum pieces) (omega (arith, length-map pieces datum, length-slice_split is_comma (map token_of (first ∷ others))))
+    ∙ accepted width (map datum pieces)
+    (omega (arith, length-map pieces datum, length-slice_split is_comma (map token_of (first ∷ others))))
     (sym (ap (λ r. option_map_or (list_all (takes place.Value)) r false) read) ∙ taken pieces ∙ all)

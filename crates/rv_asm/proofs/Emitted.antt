@@ -16,7 +16,8 @@ use Rattle.rv_isa.specs.declared.instructions.Instr.{Instr}
 pub spells_append : {p q : List Cell} {x y : List ℕ} → Spells p x → Spells q y → Spells (p ++ q) (x ++ y)
 spells_append nothing s = s
 spells_append (byte r) s = byte (spells_append r s)
-spells_append {y = y} (word {w = w} {bytes = bytes} is r) s = rw (append_assoc (to_le_bytes w32 w) bytes y) (word is (spells_append r s))
+spells_append {y = y} (word {w = w} {bytes = bytes} is r) s =
+    rw (append_assoc (to_le_bytes w32 w) bytes y) (word is (spells_append r s))
 
 -- parts that are appended one after the other are appended together
 pub appends_more : {p q : List Cell} {a b c : List ℕ} → Appends p a b → Appends q b c → Appends (p ++ q) a c
@@ -54,7 +55,8 @@ pub emits_nothing : (meaning : Result (List Cell) AsmFault) (a : List ℕ) → m
 emits_nothing meaning a means = record { parts = []; means = means; appends = appends_nothing a }
 
 -- where the bytes of an instruction's word are appended, lowest first, the instruction is
-pub appends_word : (i : Instr) (w : ℕ) (old new : List ℕ) → IsWordOf i w → new ≡ old ++ to_le_bytes w32 w → Appends (Word' i ∷ []) old new
+pub appends_word : (i : Instr) (w : ℕ) (old new : List ℕ) → IsWordOf i w → new ≡ old ++ to_le_bytes w32 w →
+    Appends (Word' i ∷ []) old new
 appends_word i w old new is e =
     record {
       bytes = to_le_bytes w32 w ++ [];
@@ -79,7 +81,8 @@ zeros_after old new size count len e size_is len_is =
     e ∙ ap (λ l. l ++ replicate (size - len) 0) whole ∙ ap (λ n. old ++ replicate n 0) left
 
 -- what is left of a list begins with the next element
-pub rest_is : {X : Type 0} (xs : List X) (i : ℕ) (x : X) → x ≡ get_or xs i x → i < length xs → drop i xs ≡ x ∷ drop (i + 1) xs
+pub rest_is : {X : Type 0} (xs : List X) (i : ℕ) (x : X) → x ≡ get_or xs i x → i < length xs →
+    drop i xs ≡ x ∷ drop (i + 1) xs
 rest_is xs i x is within = drop_more xs i x within ∙ ap (λ y. y ∷ drop (i + 1) xs) (sym is)
 
 -- what is emitted first, and what the rest gives

@@ -34,7 +34,8 @@ fill_past (place ∷ places) (operand ∷ operands) fields more =
     either (is_implied place) _ _ _
     (ap (λ r. and_then r (λ filled. Ok (imply place filled)))
     (fill_past places (operand ∷ operands) fields (omega (arith, more))))
-    (either (takes place operand) _ _ _ (ap (λ r. and_then r (put place operand)) (fill_past places operands fields (omega (arith, more)))) refl)
+    (either (takes place operand) _ _ _
+    (ap (λ r. and_then r (put place operand)) (fill_past places operands fields (omega (arith, more)))) refl)
 
 instruction_past : (operation : Operation) (places : List Place) (operands : List Operand) →
     length places < length operands → instruction operation places operands ≡ Err BadOperands
@@ -57,8 +58,10 @@ statement_past : (form : Form) (a b c d : Operand) (rest : List Operand) → is_
 unfolding statement
 statement_past (form.Instruction operation first second third) a b c d rest other =
     instruction_past operation (first ∷ second ∷ third ∷ []) (a ∷ b ∷ c ∷ d ∷ rest) (omega arith)
-statement_past form.Jal a b c d rest other = let operands = a ∷ b ∷ c ∷ d ∷ rest in instruction_past operation.Jal _ operands (omega (arith, jal_short (length operands)))
-statement_past form.Jalr a b c d rest other = let operands = a ∷ b ∷ c ∷ d ∷ rest in instruction_past operation.Jalr _ operands (omega (arith, jalr_short (length operands)))
+statement_past form.Jal a b c d rest other = let operands = a ∷ b ∷ c ∷ d ∷ rest in
+    instruction_past operation.Jal _ operands (omega (arith, jal_short (length operands)))
+statement_past form.Jalr a b c d rest other = let operands = a ∷ b ∷ c ∷ d ∷ rest in
+    instruction_past operation.Jalr _ operands (omega (arith, jalr_short (length operands)))
 statement_past form.Global (Value (Symbol name)) b c d rest other = refl
 statement_past form.Constant (Value (Symbol name)) (Value (Number number)) c d rest other = refl
 statement_past (form.Values width) a b c d rest other = absurd (cc)
@@ -88,10 +91,12 @@ few_only form (Some (a ∷ b ∷ c ∷ d ∷ rest)) n is many other = statement_
 pub too_many : (tokens : List Token) (form : Form) → 3 < length (slice_split is_comma (map token_of tokens)) →
     is_data form ≡ false → and_then (operands_read (map token_of tokens)) (statement form) ≡ Err BadOperands
 too_many [] form many other = absurd (omega arith)
-too_many (first ∷ others) form many other = let pieces = slice_split is_comma (map token_of (first ∷ others)) in few_only form (operands_in pieces) (length pieces) (counted pieces) many other
+too_many (first ∷ others) form many other = let pieces = slice_split is_comma (map token_of (first ∷ others)) in
+    few_only form (operands_in pieces) (length pieces) (counted pieces) many other
 
 -- the fault where operands are not read
-fault_read : (found : Option (List Operand)) (fault : AsmFault) → ok_or found BadOperands ≡ Err fault → fault ≡ BadOperands
+fault_read : (found : Option (List Operand)) (fault : AsmFault) → ok_or found BadOperands ≡ Err fault →
+    fault ≡ BadOperands
 fault_read None fault is = cc
 fault_read (Some operands) fault is = absurd (cc)
 
@@ -108,7 +113,8 @@ pub read_refused : {V : Type 0} (meaning : V → List Operand) (r : Result V Asm
     and_then (ok_or found BadOperands) (statement form) ≡ Err BadOperands)
 read_refused meaning (Ok v) found follows = tt
 read_refused meaning (Err fault) found follows = λ not_memory form other.
-    ap (λ read. and_then read (statement form)) (follows not_memory ∙ ap Err (fault_read found fault (follows not_memory)))
+    ap (λ read. and_then read (statement form)) (follows not_memory
+    ∙ ap Err (fault_read found fault (follows not_memory)))
 
 module _ (meanings : Meanings) (reach : Reach) where
   -- what has no statement moves nothing

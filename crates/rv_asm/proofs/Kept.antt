@@ -36,10 +36,14 @@ module _ (base : ℕ) (whole : Layout) where
     pub parts : (part : Section) → contents base whole part (places lines) ≡ contents base whole part (places all)
     pub fault : first_with_fault (second_fault base whole) lines ≡ first_with_fault (second_fault base whole) all
 
-  kept_one : (line : Kept) (others : List Kept) (idle : Bool) → is_idle line.place ≡ idle → Same (cond idle [] (line ∷ []) ++ others) (line ∷ others)
+  kept_one : (line : Kept) (others : List Kept) (idle : Bool) → is_idle line.place ≡ idle →
+      Same (cond idle [] (line ∷ []) ++ others) (line ∷ others)
   kept_one line others true idle =
       let says = idle_says_nothing line.place idle in
-      record { parts = λ part. rw (says.nothing, nothing_in part line.place.reach.section) refl; fault = rw (says.nothing, says.starts_not) refl }
+      record {
+        parts = λ part. rw (says.nothing, nothing_in part line.place.reach.section) refl;
+        fault = rw (says.nothing, says.starts_not) refl;
+      }
   kept_one line others false idle = record { parts = λ part. refl; fault = refl }
 
   module _ (number : ℕ) (layout : Layout) (bytes : List ℕ) (others : List (List ℕ)) where

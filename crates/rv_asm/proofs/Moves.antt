@@ -23,22 +23,28 @@ after_grows part m reach (Ok said) = grow part reach.section (size m (offset rea
 after_grows part m reach (Err fault) = omega arith
 
 -- after a line a section is not smaller, nor after many
-pub line_grows : (part : Section) (before : Layout) (line : Line) → offset_in part before.reach ≤ offset_in part (extended before line).reach
+pub line_grows : (part : Section) (before : Layout) (line : Line) → offset_in part before.reach
+    ≤ offset_in part (extended before line).reach
 line_grows part before Unreadable = omega arith
 line_grows part before (Readable labels body) =
     after_grows part (labelled before.meanings (label_at before.reach) labels) before.reach (statement_in body)
 
 -- a section is not smaller after several lines than before them
-pub lines_grow : (part : Section) (before : Layout) (lines : List Line) → offset_in part before.reach ≤ offset_in part (laid before lines).reach
+pub lines_grow : (part : Section) (before : Layout) (lines : List Line) → offset_in part before.reach
+    ≤ offset_in part (laid before lines).reach
 lines_grow part before [] = omega arith
-lines_grow part before (line ∷ others) = omega (arith, line_grows part before line, lines_grow part (extended before line) others)
+lines_grow part before (line ∷ others) =
+    omega (arith, line_grows part before line, lines_grow part (extended before line) others)
 
 grow_nothing : (s : Section) (reach : Reach) → grow_in s 0 reach ≡ reach
-grow_nothing Text reach = let same : reach.text_size + 0 ≡ reach.text_size = omega arith in ap (λ n. record reach { text_size = n }) same
-grow_nothing Data reach = let same : reach.data_size + 0 ≡ reach.data_size = omega arith in ap (λ n. record reach { data_size = n }) same
+grow_nothing Text reach = let same : reach.text_size + 0 ≡ reach.text_size = omega arith in
+    ap (λ n. record reach { text_size = n }) same
+grow_nothing Data reach = let same : reach.data_size + 0 ≡ reach.data_size = omega arith in
+    ap (λ n. record reach { data_size = n }) same
 
 -- an idle line moves nothing
-pub idle_stays : (before : Layout) (line : Line) → is_idle (place before.reach line) ≡ true → (extended before line).reach ≡ before.reach
+pub idle_stays : (before : Layout) (line : Line) → is_idle (place before.reach line) ≡ true →
+    (extended before line).reach ≡ before.reach
 idle_stays before Unreadable idle = refl
 idle_stays before (Readable labels body) idle =
     ap (λ said. (after_statement (labelled before.meanings (label_at before.reach) labels) before.reach said).reach)

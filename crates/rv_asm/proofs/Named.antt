@@ -34,11 +34,14 @@ module _ {T : Type 0} (table : List (Bor (List ℕ) × T)) (i : ℕ) (row : Bor 
       (drop_more table i row inside ∙ ap (λ first. first ∷ drop (i + 1) table) (sym row_is))
 
   -- where the next row has the name, it is the one that is found
-  pub named-here : bytes_eq row.0.now name ≡ true → named (map (λ row. (row.0.now, row.1)) (drop i table)) name ≡ Some row.1
-  named-here same = next_row ∙ ap (λ b. cond b (Some row.1) (named (map (λ row. (row.0.now, row.1)) (drop (i + 1) table)) name)) same
+  pub named-here : bytes_eq row.0.now name ≡ true →
+      named (map (λ row. (row.0.now, row.1)) (drop i table)) name ≡ Some row.1
+  named-here same = next_row
+      ∙ ap (λ b. cond b (Some row.1) (named (map (λ row. (row.0.now, row.1)) (drop (i + 1) table)) name)) same
 
   -- where it has another name, what is found is found among the rows after it
   pub named-after : bytes_eq row.0.now name ≡ false →
       named (map (λ row. (row.0.now, row.1)) (drop i table)) name
       ≡ named (map (λ row. (row.0.now, row.1)) (drop (i + 1) table)) name
-  named-after other = next_row ∙ ap (λ b. cond b (Some row.1) (named (map (λ row. (row.0.now, row.1)) (drop (i + 1) table)) name)) other
+  named-after other = next_row
+      ∙ ap (λ b. cond b (Some row.1) (named (map (λ row. (row.0.now, row.1)) (drop (i + 1) table)) name)) other

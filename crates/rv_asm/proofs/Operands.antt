@@ -33,7 +33,8 @@ cut_at true x spec_parts parts e = ap (λ others. [] ∷ others) e
 cut_at false x spec_parts parts e = ap (onto_first (token_of x)) e ∙ onto_first-map x parts
 
 -- what tokens stand for is cut where they are
-slice_split-map : (xs : List Token) → slice_split is_comma (map token_of xs) ≡ map (map token_of) (slice_split separates xs)
+slice_split-map : (xs : List Token) → slice_split is_comma (map token_of xs)
+    ≡ map (map token_of) (slice_split separates xs)
 slice_split-map [] = refl
 slice_split-map (x ∷ xs) = cut_at (separates x) x _ _ (slice_split-map xs)
 
@@ -41,7 +42,8 @@ slice_split-map (x ∷ xs) = cut_at (separates x) x _ _ (slice_split-map xs)
 pub pieces_are : {E : Type 0} (r : Result (Vec (Bor (List Token))) E) (tokens : List Token) →
     IfOk r (λ v. map (λ x. x.now) v.items ≡ slice_split separates tokens) →
     IfOk r (λ v. map (λ x. map token_of x.now) v.items ≡ slice_split is_comma (map token_of tokens))
-pieces_are (Ok v) tokens e = sym (map-map (map token_of) (λ x. x.now) v.items) ∙ ap (map (map token_of)) e ∙ sym (slice_split-map tokens)
+pieces_are (Ok v) tokens e = sym (map-map (map token_of) (λ x. x.now) v.items) ∙ ap (map (map token_of)) e
+    ∙ sym (slice_split-map tokens)
 pieces_are (Err f) tokens e = tt
 
 -- the operands of tokens, where there are some, are those of their pieces
@@ -62,8 +64,10 @@ module _ (all : Option (List Operand)) (piece : List spec.Token) (rest others : 
       found_is ∙ sym (ap (λ l. joined operand_of done (operands_in l)) rest_is) ∙ so_far
 
   -- a piece is an operand
-  pub joined-operand : (o : read.Operand) → Some (operand_of o) ≡ operand piece → joined operand_of (done ++ o ∷ []) (operands_in others) ≡ all
-  joined-operand o read_is = joined-push operand_of done o (operands_in others) ∙ joined-found (Some (operand_of o)) read_is
+  pub joined-operand : (o : read.Operand) → Some (operand_of o) ≡ operand piece →
+      joined operand_of (done ++ o ∷ []) (operands_in others) ≡ all
+  joined-operand o read_is = joined-push operand_of done o (operands_in others)
+      ∙ joined-found (Some (operand_of o)) read_is
 
 -- four tokens or more are no expression
 expression-long : (t u v w : spec.Token) (rest : List spec.Token) → expression (t ∷ u ∷ v ∷ w ∷ rest) ≡ None
@@ -77,23 +81,28 @@ based-none None = refl
 based-none (Some offset) = refl
 
 -- by the number of its tokens an operand is an expression, or one before a name in parentheses
-operand-four : (t u v w : spec.Token) → based (expression (t ∷ [])) (in_parentheses u v w) ≡ operand (t ∷ u ∷ v ∷ w ∷ [])
+operand-four : (t u v w : spec.Token) → based (expression (t ∷ [])) (in_parentheses u v w)
+    ≡ operand (t ∷ u ∷ v ∷ w ∷ [])
 operand-four (spec.Text bytes) u v w = refl
 operand-four _ u v w = refl
 
-operand-five : (t u v w x : spec.Token) → based (expression (t ∷ u ∷ [])) (in_parentheses v w x) ≡ operand (t ∷ u ∷ v ∷ w ∷ x ∷ [])
+operand-five : (t u v w x : spec.Token) → based (expression (t ∷ u ∷ [])) (in_parentheses v w x)
+    ≡ operand (t ∷ u ∷ v ∷ w ∷ x ∷ [])
 operand-five (spec.Text bytes) u v w x = refl
 operand-five _ u v w x = refl
 
-operand-six : (t u v w x y : spec.Token) → based (expression (t ∷ u ∷ v ∷ [])) (in_parentheses w x y) ≡ operand (t ∷ u ∷ v ∷ w ∷ x ∷ y ∷ [])
+operand-six : (t u v w x y : spec.Token) → based (expression (t ∷ u ∷ v ∷ [])) (in_parentheses w x y)
+    ≡ operand (t ∷ u ∷ v ∷ w ∷ x ∷ y ∷ [])
 operand-six (spec.Text bytes) u v w x y = refl
 operand-six _ u v w x y = refl
 
 operand-many : (t u v w x y z : spec.Token) (rest : List spec.Token) → operand (t ∷ u ∷ v ∷ w ∷ x ∷ y ∷ z ∷ rest) ≡ None
-operand-many t u v w x y z rest = is_expression t ∙ ap (option_map Value) (expression-long t u v w (x ∷ y ∷ z ∷ rest)) where
-  is_expression : (t : spec.Token) → operand (t ∷ u ∷ v ∷ w ∷ x ∷ y ∷ z ∷ rest) ≡ option_map Value (expression (t ∷ u ∷ v ∷ w ∷ x ∷ y ∷ z ∷ rest))
-  is_expression (spec.Text bytes) = refl
-  is_expression _ = refl
+operand-many t u v w x y z rest = is_expression t
+    ∙ ap (option_map Value) (expression-long t u v w (x ∷ y ∷ z ∷ rest)) where
+      is_expression : (t : spec.Token) → operand (t ∷ u ∷ v ∷ w ∷ x ∷ y ∷ z ∷ rest)
+          ≡ option_map Value (expression (t ∷ u ∷ v ∷ w ∷ x ∷ y ∷ z ∷ rest))
+      is_expression (spec.Text bytes) = refl
+      is_expression _ = refl
 
 -- what stands before a name in parentheses is its offset
 module _ (name : List ℕ) where
@@ -116,9 +125,12 @@ module _ (name : List ℕ) where
   operand-ended found (a ∷ b ∷ []) alone after = after (omega arith) ∙ operand-five (token_of a) _ _ _ _
   operand-ended found (a ∷ b ∷ c ∷ []) alone after = after (omega arith) ∙ operand-six (token_of a) _ _ _ _ _
   operand-ended found (a ∷ b ∷ c ∷ d ∷ []) alone after = after (omega arith) ∙ long-offset (token_of a) _ _ _ _ _ _ _ _
-  operand-ended found (a ∷ b ∷ c ∷ d ∷ e ∷ []) alone after = after (omega arith) ∙ long-offset (token_of a) _ _ _ _ _ _ _ _
-  operand-ended found (a ∷ b ∷ c ∷ d ∷ e ∷ f ∷ []) alone after = after (omega arith) ∙ long-offset (token_of a) _ _ _ _ _ _ _ _
-  operand-ended found (a ∷ b ∷ c ∷ d ∷ e ∷ f ∷ g ∷ offset) alone after = after (omega arith) ∙ long-offset (token_of a) _ _ _ _ _ _ _ _
+  operand-ended found (a ∷ b ∷ c ∷ d ∷ e ∷ []) alone after = after (omega arith)
+      ∙ long-offset (token_of a) _ _ _ _ _ _ _ _
+  operand-ended found (a ∷ b ∷ c ∷ d ∷ e ∷ f ∷ []) alone after = after (omega arith)
+      ∙ long-offset (token_of a) _ _ _ _ _ _ _ _
+  operand-ended found (a ∷ b ∷ c ∷ d ∷ e ∷ f ∷ g ∷ offset) alone after = after (omega arith)
+      ∙ long-offset (token_of a) _ _ _ _ _ _ _ _
 
   -- where tokens end with a name in parentheses, their operand is by that name and the offset before it, if any
   pub operand-indirect : (found : Option Operand) (tokens offset after : List Token) → tokens ≡ offset ++ after →
@@ -142,16 +154,20 @@ operand-long : (tokens : List Token) → 3 ≤ length tokens →
     ((name : List ℕ) →
     map token_of (drop (length tokens - 3) tokens) ≢ (LeftParenthesis ∷ Name name ∷ RightParenthesis ∷ [])) →
     option_map Value (expression (map token_of tokens)) ≡ operand (map token_of tokens)
-operand-long (a ∷ b ∷ c ∷ []) long other = let none = in_parentheses-none (token_of a) (token_of b) (token_of c) other in search rules
+operand-long (a ∷ b ∷ c ∷ []) long other = let none =
+    in_parentheses-none (token_of a) (token_of b) (token_of c) other in search rules
 operand-long (a ∷ b ∷ c ∷ d ∷ []) long other =
     let none = in_parentheses-none (token_of b) (token_of c) (token_of d) other in
-    ap (option_map Value) (expression-long (token_of a) _ _ _ _) ∙ sym (based-none _) ∙ ap (based _) (sym none) ∙ operand-four (token_of a) _ _ _
+    ap (option_map Value) (expression-long (token_of a) _ _ _ _) ∙ sym (based-none _) ∙ ap (based _) (sym none)
+    ∙ operand-four (token_of a) _ _ _
 operand-long (a ∷ b ∷ c ∷ d ∷ e ∷ []) long other =
     let none = in_parentheses-none (token_of c) (token_of d) (token_of e) other in
-    ap (option_map Value) (expression-long (token_of a) _ _ _ _) ∙ sym (based-none _) ∙ ap (based _) (sym none) ∙ operand-five (token_of a) _ _ _ _
+    ap (option_map Value) (expression-long (token_of a) _ _ _ _) ∙ sym (based-none _) ∙ ap (based _) (sym none)
+    ∙ operand-five (token_of a) _ _ _ _
 operand-long (a ∷ b ∷ c ∷ d ∷ e ∷ f ∷ []) long other =
     let none = in_parentheses-none (token_of d) (token_of e) (token_of f) other in
-    ap (option_map Value) (expression-long (token_of a) _ _ _ _) ∙ sym (based-none _) ∙ ap (based _) (sym none) ∙ operand-six (token_of a) _ _ _ _ _
+    ap (option_map Value) (expression-long (token_of a) _ _ _ _) ∙ sym (based-none _) ∙ ap (based _) (sym none)
+    ∙ operand-six (token_of a) _ _ _ _ _
 operand-long (a ∷ b ∷ c ∷ d ∷ e ∷ f ∷ g ∷ tokens) long other =
     ap (option_map Value) (expression-long (token_of a) _ _ _ _) ∙ sym (operand-many (token_of a) _ _ _ _ _ _ _)
 operand-long _ long other = absurd (omega arith)

@@ -36,7 +36,8 @@ tokens_of-first (byte ∷ bytes) found some_bytes found_is positive =
     ∙ ap (λ rest. tokens_after rest 0) (drop-size byte bytes found.size positive))
 
 -- a line that does not begin with a lexeme is not made of tokens
-pub tokens_of-none : (line : List ℕ) → 0 < length line → None ≡ first_lexeme (get_or line 0 0) line → tokens_of line ≡ None
+pub tokens_of-none : (line : List ℕ) → 0 < length line → None ≡ first_lexeme (get_or line 0 0) line →
+    tokens_of line ≡ None
 unfolding tokens_of
 tokens_of-none [] some_bytes found_is = absurd (omega arith)
 tokens_of-none (byte ∷ bytes) some_bytes found_is = tokens_after-first byte bytes None found_is

@@ -38,7 +38,8 @@ without_plus digits no_plus =
 -- a text that begins with a plus sign is not made of digits of a base of 36 at most
 pub plus_is_no_digit : (base : ℕ) (digits : List ℕ) → base ≤ 36 → slice_index digits 0 ≡ 43 → AllDigits base digits → ⊥
 plus_is_no_digit base [] letters plus all = absurd (cc)
-plus_is_no_digit base (digit ∷ digits) letters plus all = let value : digit_value digit ≡ 36 = ap digit_value plus in omega (arith, all.0)
+plus_is_no_digit base (digit ∷ digits) letters plus all = let value : digit_value digit ≡ 36 = ap digit_value plus in
+    omega (arith, all.0)
 
 read_if : {E : Type 0} {P : Type 0} (test : Bool) (value : ℕ) (r : Result ℕ E) → Decides test P → OkIff r P value →
     result_ok r ≡ cond test (Some value) None

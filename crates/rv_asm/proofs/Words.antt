@@ -31,7 +31,8 @@ grows : (a b : ℕ) → a ≤ b → word_count a ≤ word_count b
 grows a b le = omega (arith, le)
 
 -- lines that the program keeps: where they begin, and their words
-pub record Gives (part : Section) (end : Reach) (lines : List Kept) (begin : Reach) (words : List (Option source.Line)) : Type 0 where
+pub record Gives (part : Section) (end : Reach) (lines : List Kept) (begin : Reach)
+    (words : List (Option source.Line)) : Type 0 where
   pub begins : reach_before end lines ≡ begin
   pub words_are : words_in part end lines ≡ words
 
@@ -72,10 +73,16 @@ module _ (part : Section) (end : Reach) where
       let others_grow = grows _ _ (lines_grow part after (map line_in others)) in
       let end_size = ap (λ reach. word_count (offset_in part reach)) end_is in
       let whole : n ≡ m + (n - m) = omega (arith, first_grows, others_grow, end_size) in
-      let begin : word_count (offset_in part before.reach) + m ≡ word_count (offset_in part after.reach) = omega (arith, first_grows) in
-      let rest = kept_words (number + 1) after others (n - m) end_is (omega (arith, first_grows, others_grow, end_size)) in
-      let lines = keep_gives number before bytes (kept (number + 1) after others) (is_idle (place before.reach (line_in bytes))) refl rest.begins in
-      let words = split_range f g (Some (shown number bytes)) (word_count (offset_in part after.reach)) (λ i above. ap (λ h. cond h (Some (shown number bytes)) (g i)) (held_not _ _ i above)) (word_count (offset_in part before.reach)) m (n - m) begin (λ i above below. ap (λ h. cond h (Some (shown number bytes)) (g i)) (held _ _ i above below)) in
+      let begin : word_count (offset_in part before.reach) + m ≡ word_count (offset_in part after.reach) =
+      omega (arith, first_grows) in
+      let rest = kept_words (number + 1) after others (n - m) end_is
+      (omega (arith, first_grows, others_grow, end_size)) in
+      let lines = keep_gives number before bytes (kept (number + 1) after others)
+      (is_idle (place before.reach (line_in bytes))) refl rest.begins in
+      let words = split_range f g (Some (shown number bytes)) (word_count (offset_in part after.reach))
+      (λ i above. ap (λ h. cond h (Some (shown number bytes)) (g i)) (held_not _ _ i above))
+      (word_count (offset_in part before.reach)) m (n - m)
+      begin (λ i above below. ap (λ h. cond h (Some (shown number bytes)) (g i)) (held _ _ i above below)) in
       record {
         begins = lines.begins;
         words_are = lines.words_are ∙ ap (λ l. replicate m (Some (shown number bytes)) ++ l) rest.words_are
@@ -92,6 +99,8 @@ pub listed_is : (base : ℕ) (text : List ℕ) (end : Reach) (all : List Kept) (
     listing ≡ listing_of base text
 listed_is base text end all listing end_is all_are is =
     let lines = slice_split (λ byte. byte == 10) text in
-    let text_words = (kept_words Text end 1 unlaid lines (word_count end.text_size) (sym end_is) (omega arith)).words_are in
-    let data_words = (kept_words Data end 1 unlaid lines (word_count end.data_size) (sym end_is) (omega arith)).words_are in
+    let text_words = (kept_words Text end 1 unlaid lines (word_count end.text_size) (sym end_is)
+    (omega arith)).words_are in
+    let data_words = (kept_words Data end 1 unlaid lines (word_count end.data_size) (sym end_is)
+    (omega arith)).words_are in
     rw (is, all_are, text_words, data_words, end_is) refl

@@ -17,7 +17,8 @@ divides n = nat_eq (n % 4) 0 && nat_eq (4096 % n) 0
 pub line_divides : (line : ℕ) → 4 ≤ line → line ≤ 128 → is_power_of_two line ≡ true → (line % 4 ≡ 0) × (4096 % line ≡ 0)
 unfolding ones ones_in
 line_divides line low high power =
-    let tried = agree_below_at (λ n. (nat_le 4 n && is_power_of_two n) && not (divides n)) (λ n. false) 129 line refl (omega arith) in
+    let tried = agree_below_at (λ n. (nat_le 4 n && is_power_of_two n) && not (divides n)) (λ n. false) 129
+    line refl (omega arith) in
     let both = and_from (nat_le 4 line) (is_power_of_two line) (le-leb 4 line low) power in
     elim (and_cases (nat_le 4 line && is_power_of_two line) (not (divides line)) tried) [
       | inl fails ↦ absurd (false≢true (sym fails ∙ both))
@@ -31,7 +32,8 @@ pub base_divides : (base line : ℕ) → 0 < line → 4096 % line ≡ 0 → base
 base_divides base line positive pages aligned =
     let of_pages : base ≡ base / 4096 * 4096 = omega arith in
     let page : 4096 ≡ 4096 / line * line = omega (arith, div-add-mod' 4096 line) in
-    let of_lines : base ≡ base / 4096 * (4096 / line) * line + 0 = of_pages ∙ ap (λ n. base / 4096 * n) page ∙ sym (mul_assoc (base / 4096) (4096 / line) line) ∙ omega arith in
+    let of_lines : base ≡ base / 4096 * (4096 / line) * line + 0 = of_pages ∙ ap (λ n. base / 4096 * n) page
+    ∙ sym (mul_assoc (base / 4096) (4096 / line) line) ∙ omega arith in
     ap (λ n. n % line) of_lines ∙ mul-add-mod_self_right (base / 4096 * (4096 / line)) line 0 ∙ mod-eq_of_lt positive
 
 module _ (base size line_bytes address : ℕ) (positive : 0 < line_bytes) (base_aligned : base % line_bytes ≡ 0)
@@ -41,10 +43,13 @@ module _ (base size line_bytes address : ℕ) (positive : 0 < line_bytes) (base_
   line_inside =
       let first = div-add-mod' base line_bytes in
       let lines = div-add-mod' size line_bytes in
-      let from : base / line_bytes ≤ address / line_bytes = le-div (base / line_bytes) address line_bytes positive (omega (arith, first)) in
-      let to : address / line_bytes < base / line_bytes + size / line_bytes = div_below address line_bytes (base / line_bytes + size / line_bytes) positive (omega (arith, first, lines)) in
+      let from : base / line_bytes ≤ address / line_bytes = le-div (base / line_bytes) address line_bytes positive
+      (omega (arith, first)) in
+      let to : address / line_bytes < base / line_bytes + size / line_bytes =
+      div_below address line_bytes (base / line_bytes + size / line_bytes) positive (omega (arith, first, lines)) in
       let from_times = mul-le-mul_right line_bytes from in
-      let to_times : (address / line_bytes + 1) * line_bytes ≤ (base / line_bytes + size / line_bytes) * line_bytes = mul-le-mul_right line_bytes (omega arith) in
+      let to_times : (address / line_bytes + 1) * line_bytes ≤ (base / line_bytes + size / line_bytes) * line_bytes =
+      mul-le-mul_right line_bytes (omega arith) in
       (omega (arith, first, from_times), omega (arith, first, lines, to_times))
 
 -- an access at a multiple of its width lies in one line
@@ -56,7 +61,8 @@ same_line line_bytes address count k positive words width aligned within =
     let rest = address % line_bytes in
     let whole = div-add-mod' address line_bytes in
     let quads : line_bytes ≡ line_bytes / 4 * 4 = omega arith in
-    let quarter : number * line_bytes ≡ number * (line_bytes / 4) * 4 = ap (λ n. number * n) quads ∙ sym (mul_assoc number (line_bytes / 4) 4) in
+    let quarter : number * line_bytes ≡ number * (line_bytes / 4) * 4 = ap (λ n. number * n) quads
+    ∙ sym (mul_assoc number (line_bytes / 4) 4) in
     let short : rest < line_bytes = mod-lt address positive in
     let fits : rest + k < line_bytes = elim width [
       | inl one ↦ omega (arith, short)

@@ -16,10 +16,12 @@ use Rattle.rv_cache.specs.WriteBack.{Each}
 use Rattle.rv_cache.proofs.Sets.{Each-filter, Each-slice_get, Each-take}
 use Rattle.rv_cache.proofs.Written.{is_dirty_cases}
 
-is_dirty-without : (number q : ℕ) (lines : List CacheLine) → (number ≡ q → ⊥) → is_dirty q (without number lines) ≡ is_dirty q lines
+is_dirty-without : (number q : ℕ) (lines : List CacheLine) → (number ≡ q → ⊥) →
+    is_dirty q (without number lines) ≡ is_dirty q lines
 is_dirty-without number q [] other = refl
 is_dirty-without number q (line ∷ lines) other = elim (cases_Bool (nat_eq line.number number)) [
-  | inl same ↦ rw (same, ne_eqb line.number q (λ e. other (sym (eqb-true line.number number same) ∙ e))) (is_dirty-without number q lines other)
+  | inl same ↦ rw (same, ne_eqb line.number q (λ e. other (sym (eqb-true line.number number same) ∙ e)))
+      (is_dirty-without number q lines other)
   | inr differs ↦ rw differs (ap (λ b. nat_eq line.number q && line.dirty || b) (is_dirty-without number q lines other))
 ]
 
@@ -45,7 +47,8 @@ module _ (ways number : ℕ) (lines : List CacheLine) where
   pub not_accessed : (line : CacheLine) → victim ways number lines ≡ Some line → line.number ≡ number → ⊥
   not_accessed line dropped =
       let others = without number lines in
-      let kept = filter_passes (λ (l : CacheLine). not (nat_eq l.number number)) lines (ways - 1) line (slice_get_within others (ways - 1) line dropped) in
+      let kept = filter_passes (λ (l : CacheLine). not (nat_eq l.number number)) lines (ways - 1) line
+      (slice_get_within others (ways - 1) line dropped) in
       eqb-false line.number number (not-true _ (rw (get_or_from_slice_get others (ways - 1) line line dropped) at kept))
 
   module _ (writes : Bool) where
@@ -68,23 +71,29 @@ module _ (ways number : ℕ) (lines : List CacheLine) where
         ∷ take (ways - 1) (without number lines) ≡ accessed ways number writes lines
     accessed-first positive =
         let next : suc (ways - 1) ≡ ways = omega arith in
-        ap (λ n. take n (record { number = number; dirty = writes || is_dirty number lines } ∷ without number lines)) next
+        ap (λ n. take n (record { number = number; dirty = writes || is_dirty number lines }
+        ∷ without number lines)) next
 
     -- a dirty line that a set then lacks is the one that it dropped
     pub dropped_line : (q : ℕ) → 1 ≤ ways → length lines ≤ ways → is_dirty q lines ≡ true →
         is_dirty q (accessed ways number writes lines) ≡ false →
         (line : CacheLine) × (victim ways number lines ≡ Some line) × (line.number ≡ q) × (line.dirty ≡ true)
     dropped_line q positive room dirty gone =
-        let lacks = or_parts (nat_eq number q && (writes || is_dirty number lines)) _ (ap (is_dirty q) (accessed-first positive) ∙ gone) in
+        let lacks = or_parts (nat_eq number q && (writes || is_dirty number lines)) _
+        (ap (is_dirty q) (accessed-first positive) ∙ gone) in
         elim (cases_eq number q) [
           | inl same ↦
-              let dirty_still = and_from _ _ (eq-eqb number q same) (or_right writes (is_dirty number lines) (ap (λ n. is_dirty n lines) same ∙ dirty)) in
+              let dirty_still = and_from _ _ (eq-eqb number q same)
+              (or_right writes (is_dirty number lines) (ap (λ n. is_dirty n lines) same ∙ dirty)) in
               absurd (false≢true (sym lacks.0 ∙ dirty_still))
           | inr other ↦
-              let fewer = length-filter_both (λ (l : CacheLine). nat_eq l.number number) (λ l. not (nat_eq l.number number)) (λ l. refl) lines in
-              dirty_last q (ways - 1) (without number lines) (omega (arith, fewer)) (is_dirty-without number q lines other ∙ dirty) lacks.1
+              let fewer = length-filter_both (λ (l : CacheLine). nat_eq l.number number)
+              (λ l. not (nat_eq l.number number)) (λ l. refl) lines in
+              dirty_last q (ways - 1) (without number lines) (omega (arith, fewer))
+              (is_dirty-without number q lines other ∙ dirty) lacks.1
         ]
 
   -- a write makes its line dirty
   pub is_dirty_written : 1 ≤ ways → is_dirty number (accessed ways number true lines) ≡ true
-  is_dirty_written positive = ap (is_dirty number) (sym (accessed-first true positive)) ∙ or_left _ _ (and_from _ _ (eq-eqb number number refl) refl)
+  is_dirty_written positive = ap (is_dirty number) (sym (accessed-first true positive))
+      ∙ or_left _ _ (and_from _ _ (eq-eqb number number refl) refl)

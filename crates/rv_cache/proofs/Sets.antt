@@ -28,7 +28,8 @@ module _ {X : Type 0} (P : X → Type 0) where
   pub Each-filter : (p : X → Bool) (xs : List X) → Each P xs → Each P (filter p xs)
   Each-filter p [] each = tt
   Each-filter p (x ∷ xs) each =
-      elim (p x) as (λ b. Each P (cond b (x ∷ filter p xs) (filter p xs))) [ true ↦ (each.0, Each-filter p xs each.1) | false ↦ Each-filter p xs each.1 ]
+      elim (p x) as (λ b. Each P (cond b (x ∷ filter p xs) (filter p xs)))
+      [ true ↦ (each.0, Each-filter p xs each.1) | false ↦ Each-filter p xs each.1 ]
 
   -- what each of some has, the one at a place has if there is one
   pub Each-slice_get : (xs : List X) (i : ℕ) → Each P xs → IfSome (slice_get xs i) P

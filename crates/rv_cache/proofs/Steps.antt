@@ -30,7 +30,11 @@ module _ (base line_bytes : ℕ) (bytes : List ℕ) (positive : 0 < line_bytes) 
       ((line : CacheLine) × (dropped ≡ Some line) × (line.number ≡ (base + i) / line_bytes) × (line.dirty ≡ true)) →
       get_or (victim_written base line_bytes bytes dropped memory) i 0 ≡ get_or bytes i 0
   victim_wins dropped memory inside size i (inl same) =
-      elim (victim_either base line_bytes bytes positive dropped memory inside size i) [ inl stays ↦ stays ∙ same | inr seen ↦ seen.0 ]
+      elim (victim_either base line_bytes bytes positive dropped memory inside size i) [
+        | inl stays ↦ stays
+            ∙ same
+        | inr seen ↦ seen.0
+      ]
   victim_wins None memory inside size i (inr own) = absurd (cc (own.1))
   victim_wins (Some line) memory inside size i (inr own) =
       let is : line ≡ own.0 = cc (own.1) in
@@ -50,16 +54,19 @@ module _ (base : ℕ) (values : CacheValues) (bytes memory : List ℕ) (sets : L
   place_in number = omega (arith, mod-lt number some_sets, was.filled.count)
 
   pub room_at : (number : ℕ) → length (get_or sets (number % values.sets) []) ≤ values.ways
-  room_at number = Each-at (λ lines. length lines ≤ values.ways) sets (number % values.sets) [] (omega arith) was.filled.room
+  room_at number = Each-at (λ lines. length lines ≤ values.ways) sets (number % values.sets) []
+      (omega arith) was.filled.room
 
   inside_at : (number : ℕ) → AreInside base values.line (length bytes) (get_or sets (number % values.sets) [])
-  inside_at number = Each-at (AreInside base values.line (length bytes)) sets (number % values.sets) [] tt was.filled.inside
+  inside_at number = Each-at (AreInside base values.line (length bytes)) sets (number % values.sets)
+      [] tt was.filled.inside
 
   -- a line that its set drops for another lies in memory as a whole
   pub dropped_inside : (number : ℕ) →
       IfSome (victim values.ways number (get_or sets (number % values.sets) []))
       (λ line. IsInside base values.line (length bytes) line.number)
-  dropped_inside number = Each-victim values.ways number _ (λ line. IsInside base values.line (length bytes) line.number) (inside_at number)
+  dropped_inside number = Each-victim values.ways number _
+      (λ line. IsInside base values.line (length bytes) line.number) (inside_at number)
 
   module _ (address : ℕ) (above : base ≤ address) (below : address < base + length bytes) (writes : Bool) where
     abbrev number : ℕ
@@ -82,7 +89,8 @@ module _ (base : ℕ) (values : CacheValues) (bytes memory : List ℕ) (sets : L
 
     filled_after : AreFilled base values (length bytes) (set sets place after)
     filled_after =
-        let own = line_inside base (length bytes) values.line address positive was.divided.base_aligned was.divided.whole_lines above below in
+        let own = line_inside base (length bytes) values.line address positive was.divided.base_aligned
+        was.divided.whole_lines above below in
         record {
           count = length-set sets place after ∙ was.filled.count;
           room =
@@ -95,18 +103,23 @@ module _ (base : ℕ) (values : CacheValues) (bytes memory : List ℕ) (sets : L
               was.filled.inside;
         }
 
-    in_step_after : IsInStep base values bytes (set sets place after) (victim_written base values.line bytes dropped memory)
+    in_step_after : IsInStep base values bytes (set sets place after)
+        (victim_written base values.line bytes dropped memory)
     in_step_after i within clean =
         let q = (base + i) / values.line in
         let other_place = q % values.sets in
-        victim_wins base values.line bytes positive dropped memory (dropped_inside number) was.size i (elim (cases_eq other_place place) [
-          | inr other ↦ inl (was.in_step i within (sym (ap (is_dirty q) (get_or-set_other sets place other_place after [] other)) ∙ clean))
+        victim_wins base values.line bytes positive dropped memory (dropped_inside number) was.size i
+        (elim (cases_eq other_place place) [
+          | inr other ↦ inl (was.in_step i
+              within (sym (ap (is_dirty q) (get_or-set_other sets place other_place after [] other)) ∙ clean))
           | inl same ↦
               let here = get_or-set_at sets place other_place after [] same (place_in number) in
               let clean_after = sym (ap (is_dirty q) here) ∙ clean in
               elim (cases_Bool (is_dirty q lines)) [
-                | inr clean_before ↦ inl (was.in_step i within (ap (λ n. is_dirty q (get_or sets n [])) same ∙ clean_before))
-                | inl dirty ↦ inr (dropped_line values.ways number lines writes q was.divided.legal.0.ways.0 (room_at number) dirty clean_after)
+                | inr clean_before ↦ inl
+                    (was.in_step i within (ap (λ n. is_dirty q (get_or sets n [])) same ∙ clean_before))
+                | inl dirty ↦ inr (dropped_line values.ways number lines writes q was.divided.legal.0.ways.0
+                    (room_at number) dirty clean_after)
               ]
         ])
 
@@ -115,14 +128,21 @@ module _ (base : ℕ) (values : CacheValues) (bytes memory : List ℕ) (sets : L
         ≡ get_or memory i 0)
         ⊎ ((get_or (victim_written base values.line bytes dropped memory) i 0 ≡ get_or bytes i 0)
         × ((base + i) / values.line ≢ number))
-    updated_elsewhere i = elim (victim_either base values.line bytes positive dropped memory (dropped_inside number) was.size i) [
-      | inl stays ↦ inl stays
-      | inr seen ↦ inr (seen.0, λ own. not_accessed values.ways number lines seen.1 seen.2 (sym seen.3 ∙ own))
-    ]
+    updated_elsewhere i = elim (victim_either base values.line bytes positive dropped memory
+        (dropped_inside number) was.size i) [
+          | inl stays ↦ inl stays
+          | inr seen ↦ inr (seen.0, λ own. not_accessed values.ways number lines seen.1 seen.2 (sym seen.3 ∙ own))
+        ]
 
     -- an access keeps the fields consistent
-    pub consistent_after : IsConsistent base values bytes (set sets place after) (victim_written base values.line bytes dropped memory)
-    consistent_after = record { divided = was.divided; filled = filled_after; size = length_after; in_step = in_step_after }
+    pub consistent_after : IsConsistent base values bytes (set sets place after)
+        (victim_written base values.line bytes dropped memory)
+    consistent_after = record {
+      divided = was.divided;
+      filled = filled_after;
+      size = length_after;
+      in_step = in_step_after;
+    }
 
   -- a line that was just written is dirty
   dirty_after_write : (number : ℕ) (old_sets : List (List CacheLine)) (lines : List CacheLine) →
@@ -133,7 +153,8 @@ module _ (base : ℕ) (values : CacheValues) (bytes memory : List ℕ) (sets : L
       let now = accessed values.ways number true lines in
       let same_count = ap length is ∙ length-set old_sets place now in
       ap (λ (ss : List (List CacheLine)). is_dirty number (get_or ss place [])) is
-      ∙ ap (is_dirty number) (get_or-set_at old_sets place place now [] refl (omega (arith, place_in number, same_count)))
+      ∙ ap (is_dirty number) (get_or-set_at old_sets place place now [] refl
+      (omega (arith, place_in number, same_count)))
       ∙ is_dirty_written values.ways number lines was.divided.legal.0.ways.0
 
   -- after an access that writes, the line of its address is dirty
@@ -141,7 +162,9 @@ module _ (base : ℕ) (values : CacheValues) (bytes memory : List ℕ) (sets : L
       sets ≡ accessed_sets old address true →
       is_dirty (address / values.line) (get_or sets (address / values.line % values.sets) []) ≡ true
   dirty_after_access old address same_values is =
-      let Accessed = λ (v : CacheValues). sets ≡ set old.sets (address / v.line % v.sets) (accessed v.ways (address / v.line) true (get_or old.sets (address / v.line % v.sets) [])) in
+      let Accessed = λ (v : CacheValues). sets
+      ≡ set old.sets (address / v.line % v.sets)
+      (accessed v.ways (address / v.line) true (get_or old.sets (address / v.line % v.sets) [])) in
       dirty_after_write (address / values.line) old.sets (get_or old.sets (address / values.line % values.sets) [])
       (subst Accessed (sym same_values) is)
 
@@ -161,12 +184,16 @@ module _ (base : ℕ) (values : CacheValues) (bytes memory : List ℕ) (sets : L
           filled = subst (λ n. AreFilled base values n sets) (sym same) was.filled;
           size = was.size ∙ sym same;
           in_step = λ i within clean. elim (cases_lt i at) [
-            | inl before ↦ was.in_step i (omega (arith, same)) clean ∙ sym (get_or-overwritten_below bytes written at fits i before)
+            | inl before ↦ was.in_step i (omega (arith, same)) clean
+                ∙ sym (get_or-overwritten_below bytes written at fits i before)
             | inr from ↦ elim (cases_lt i (at + length written)) [
-              | inr behind ↦ was.in_step i (omega (arith, same)) clean ∙ sym (get_or-overwritten_above bytes written at fits i behind)
+              | inr behind ↦ was.in_step i (omega (arith, same)) clean
+                  ∙ sym (get_or-overwritten_above bytes written at fits i behind)
               | inl here ↦
                   let place_of_byte : base + i ≡ address + (i - at) = omega arith in
-                  let own : (base + i) / values.line ≡ address / values.line = ap (λ n. n / values.line) place_of_byte ∙ same_line values.line address (length written) (i - at) positive was.divided.words width aligned (omega arith) in
+                  let own : (base + i) / values.line ≡ address / values.line = ap (λ n. n / values.line) place_of_byte
+                  ∙ same_line values.line address (length written) (i - at) positive was.divided.words width
+                  aligned (omega arith) in
                   absurd (false≢true (sym clean ∙ ap (λ n. is_dirty n (get_or sets (n % values.sets) [])) own ∙ dirty))
             ]
           ];
@@ -197,7 +224,9 @@ module _ (base : ℕ) (values : CacheValues) (bytes memory : List ℕ) (sets : L
       let size = length-sets_written base values.line bytes positive sets memory was.filled.inside was.size in
       ext_get_or 0 _ _ size (λ i within.
       let q = (base + i) / values.line in
-      sets_win base values.line bytes positive sets memory was.filled.inside was.size i (q % values.sets) (elim (cases_Bool (is_dirty q (get_or sets (q % values.sets) []))) [ inl dirty ↦ inr dirty | inr clean ↦ inl (was.in_step i (omega (arith, size)) clean) ]))
+      sets_win base values.line bytes positive sets memory was.filled.inside was.size i (q % values.sets)
+      (elim (cases_Bool (is_dirty q (get_or sets (q % values.sets) [])))
+      [ inl dirty ↦ inr dirty | inr clean ↦ inl (was.in_step i (omega (arith, size)) clean) ]))
 
   -- a cache whose lines are all cleaned is consistent with a memory that holds what a program sees
   pub consistent_cleaned : (now : List ℕ) → now ≡ bytes → IsConsistent base values bytes (map (map cleaned) sets) now

@@ -23,7 +23,8 @@ module _ (xs ys : List ℕ) (at : ℕ) (fits : at + length ys ≤ length xs) whe
       simp (length-append, length-drop) (omega (arith, length-take-le at xs front))
 
   -- in the range that was written, the written byte is read
-  pub get_or-overwritten_in : (k : ℕ) → at ≤ k → k < at + length ys → get_or (overwritten xs at ys) k 0 ≡ get_or ys (k - at) 0
+  pub get_or-overwritten_in : (k : ℕ) → at ≤ k → k < at + length ys → get_or (overwritten xs at ys) k 0
+      ≡ get_or ys (k - at) 0
   get_or-overwritten_in k low high =
       get_or-append_right (take at xs) (ys ++ drop (at + length ys) xs) at k 0 (length-take-le at xs (omega arith)) low
       ∙ get_or_append_left ys (drop (at + length ys) xs) 0 (k - at) (omega arith)
@@ -31,13 +32,15 @@ module _ (xs ys : List ℕ) (at : ℕ) (fits : at + length ys ≤ length xs) whe
   -- a byte before those that are written stays
   pub get_or-overwritten_below : (k : ℕ) → k < at → get_or (overwritten xs at ys) k 0 ≡ get_or xs k 0
   get_or-overwritten_below k low =
-      get_or_append_left (take at xs) (ys ++ drop (at + length ys) xs) 0 k (omega (arith, length-take-le at xs (omega arith)))
+      get_or_append_left (take at xs) (ys ++ drop (at + length ys) xs) 0 k
+      (omega (arith, length-take-le at xs (omega arith)))
       ∙ get_or-take at xs k 0 low
 
   -- a byte after those that are written stays
   pub get_or-overwritten_above : (k : ℕ) → at + length ys ≤ k → get_or (overwritten xs at ys) k 0 ≡ get_or xs k 0
   get_or-overwritten_above k high =
-      get_or-append_right (take at xs) (ys ++ drop (at + length ys) xs) at k 0 (length-take-le at xs (omega arith)) (omega arith)
+      get_or-append_right (take at xs) (ys ++ drop (at + length ys) xs) at k 0
+      (length-take-le at xs (omega arith)) (omega arith)
       ∙ get_or-append_right ys (drop (at + length ys) xs) (length ys) (k - at) 0 refl (omega arith)
       ∙ get_or-drop (at + length ys) xs (k - at - length ys) 0
       ∙ ap (λ j. get_or xs j 0) (omega arith)
@@ -69,14 +72,16 @@ module _ (base line_bytes : ℕ) (bytes : List ℕ) (positive : 0 < line_bytes) 
   module _ (line : CacheLine) (memory : List ℕ) (inside : IsInside base line_bytes (length bytes) line.number)
       (size : length memory ≡ length bytes) where
     abbrev block : List ℕ
-    block = slice_range bytes (offset_of base line_bytes line.number) (offset_of base line_bytes line.number + line_bytes)
+    block = slice_range bytes (offset_of base line_bytes line.number)
+        (offset_of base line_bytes line.number + line_bytes)
 
     length-block : length block ≡ line_bytes
     length-block =
         length-between bytes (offset_of base line_bytes line.number)
         (offset_of base line_bytes line.number + line_bytes) (omega arith) ∙ omega arith
 
-    written : line.dirty ≡ true → line_written base line_bytes bytes line memory ≡ overwritten memory (offset_of base line_bytes line.number) block
+    written : line.dirty ≡ true → line_written base line_bytes bytes line memory
+        ≡ overwritten memory (offset_of base line_bytes line.number) block
     written dirty = cond-true line.dirty _ memory dirty
 
     kept : line.dirty ≡ false → line_written base line_bytes bytes line memory ≡ memory
@@ -84,7 +89,8 @@ module _ (base line_bytes : ℕ) (bytes : List ℕ) (positive : 0 < line_bytes) 
 
     pub length-line_written : length (line_written base line_bytes bytes line memory) ≡ length bytes
     length-line_written = elim (cases_Bool line.dirty) [
-      | inl dirty ↦ ap length (written dirty) ∙ length-overwritten memory block (offset_of base line_bytes line.number) (omega (arith, length-block)) ∙ size
+      | inl dirty ↦ ap length (written dirty) ∙ length-overwritten memory block (offset_of base line_bytes line.number)
+          (omega (arith, length-block)) ∙ size
       | inr clean ↦ ap length (kept clean) ∙ size
     ]
 
@@ -104,7 +110,8 @@ module _ (base line_bytes : ℕ) (bytes : List ℕ) (positive : 0 < line_bytes) 
               | inr above ↦ inl (start ∙ get_or-overwritten_above memory block off fits i (omega (arith, length-block)))
               | inl here ↦
                   let place : base + i ≡ line.number * line_bytes + (i - off) = omega arith in
-                  let own = ap (λ n. n / line_bytes) place ∙ div-mul-add line.number line_bytes (i - off) (omega arith) in
+                  let own = ap (λ n. n / line_bytes) place
+                  ∙ div-mul-add line.number line_bytes (i - off) (omega arith) in
                   inr (
                     start
                         ∙ get_or-overwritten_in memory block off fits i from (omega (arith, length-block))
@@ -117,7 +124,8 @@ module _ (base line_bytes : ℕ) (bytes : List ℕ) (positive : 0 < line_bytes) 
     ]
 
     -- a byte of a dirty line is then the one that a program sees
-    pub line_wins : (i : ℕ) → IsToCome memory i (IsLineOf line i) → get_or (line_written base line_bytes bytes line memory) i 0 ≡ get_or bytes i 0
+    pub line_wins : (i : ℕ) → IsToCome memory i (IsLineOf line i) →
+        get_or (line_written base line_bytes bytes line memory) i 0 ≡ get_or bytes i 0
     line_wins i (inl same) = elim (line_either i) [ inl stays ↦ stays ∙ same | inr seen ↦ seen.0 ]
     line_wins i (inr own) =
         let off = offset_of base line_bytes line.number in
@@ -132,7 +140,8 @@ module _ (base line_bytes : ℕ) (bytes : List ℕ) (positive : 0 < line_bytes) 
       AreInside base line_bytes (length bytes) lines → length memory ≡ length bytes →
       length (lines_written base line_bytes bytes lines memory) ≡ length bytes
   length-lines_written [] memory inside size = size
-  length-lines_written (line ∷ lines) memory inside size = length-lines_written lines _ inside.1 (length-line_written line memory inside.0 size)
+  length-lines_written (line ∷ lines) memory inside size =
+      length-lines_written lines _ inside.1 (length-line_written line memory inside.0 size)
 
   pub lines_win : (lines : List CacheLine) (memory : List ℕ) → AreInside base line_bytes (length bytes) lines →
       length memory ≡ length bytes → (i : ℕ) → IsToCome memory i (is_dirty ((base + i) / line_bytes) lines ≡ true) →
@@ -153,7 +162,8 @@ module _ (base line_bytes : ℕ) (bytes : List ℕ) (positive : 0 < line_bytes) 
       Each (AreInside base line_bytes (length bytes)) sets → length memory ≡ length bytes →
       length (sets_written base line_bytes bytes sets memory) ≡ length bytes
   length-sets_written [] memory inside size = size
-  length-sets_written (lines ∷ sets) memory inside size = length-sets_written sets _ inside.1 (length-lines_written lines memory inside.0 size)
+  length-sets_written (lines ∷ sets) memory inside size =
+      length-sets_written sets _ inside.1 (length-lines_written lines memory inside.0 size)
 
   -- once all sets are written, memory has a byte as a program sees it, if it did before or a set has its line dirty
   pub sets_win : (sets : List (List CacheLine)) (memory : List ℕ) →
@@ -163,9 +173,11 @@ module _ (base line_bytes : ℕ) (bytes : List ℕ) (positive : 0 < line_bytes) 
   sets_win [] memory inside size i k (inl same) = same
   sets_win [] memory inside size i k (inr dirty) = absurd (false≢true dirty)
   sets_win (lines ∷ sets) memory inside size i zero to_come =
-      sets_win sets _ inside.1 (length-lines_written lines memory inside.0 size) i zero (inl (lines_win lines memory inside.0 size i to_come))
+      sets_win sets _ inside.1 (length-lines_written lines memory inside.0 size) i zero
+      (inl (lines_win lines memory inside.0 size i to_come))
   sets_win (lines ∷ sets) memory inside size i (suc k) (inl same) =
-      sets_win sets _ inside.1 (length-lines_written lines memory inside.0 size) i k (inl (lines_win lines memory inside.0 size i (inl same)))
+      sets_win sets _ inside.1 (length-lines_written lines memory inside.0 size) i k
+      (inl (lines_win lines memory inside.0 size i (inl same)))
   sets_win (lines ∷ sets) memory inside size i (suc k) (inr dirty) =
       sets_win sets _ inside.1 (length-lines_written lines memory inside.0 size) i k (inr dirty)
 
@@ -184,4 +196,5 @@ module _ (base line_bytes : ℕ) (bytes : List ℕ) (positive : 0 < line_bytes) 
       × (victim ≡ Some line) × ((base + i) / line_bytes ≡ line.number))
   victim_either None memory inside size i = inl refl
   victim_either (Some line) memory inside size i =
-      elim (line_either line memory inside size i) [ inl stays ↦ inl stays | inr seen ↦ inr (seen.0, line, refl, seen.1) ]
+      elim (line_either line memory inside size i)
+      [ inl stays ↦ inl stays | inr seen ↦ inr (seen.0, line, refl, seen.1) ]

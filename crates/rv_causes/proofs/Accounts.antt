@@ -11,7 +11,8 @@ use Rattle.rv_causes.specs.declared.{cause.Cause.Cause, event.Event.Event}
 use Rattle.rv_causes.specs.declared.cause.Cause.TheVariants as cause
 
 -- the account of a path in two parts is that of the older part, and then of the newer one
-pub with_path-append : (xs ys : List Event) (account : Accounted) → with_path (xs ++ ys) account ≡ with_path xs (with_path ys account)
+pub with_path-append : (xs ys : List Event) (account : Accounted) → with_path (xs ++ ys) account
+    ≡ with_path xs (with_path ys account)
 with_path-append [] ys account = refl
 with_path-append (x ∷ xs) ys account = ap (with_event x) (with_path-append xs ys account)
 
@@ -60,10 +61,12 @@ place_within cause.Other = omega arith
 -- so many more at a place
 pub sum-set : (counts : List ℕ) (place more : ℕ) → place < length counts
     → sum (slice_set counts place (slice_index_or counts place 0 + more)) ≡ sum counts + more
-sum-set counts place more within = omega (arith, sum_by-set (λ n. n) counts place (slice_index_or counts place 0 + more) 0 within)
+sum-set counts place more within =
+    omega (arith, sum_by-set (λ n. n) counts place (slice_index_or counts place 0 + more) 0 within)
 
 -- so many cycles more of a cause
-pub sum-with : (why : Cause) (cycles : ℕ) (causes : List ℕ) → length causes ≡ 35 → sum (with_cycles why cycles causes) ≡ sum causes + cycles
+pub sum-with : (why : Cause) (cycles : ℕ) (causes : List ℕ) → length causes ≡ 35 →
+    sum (with_cycles why cycles causes) ≡ sum causes + cycles
 sum-with why cycles causes all = sum-set causes (place_of why) cycles (omega (arith, all, place_within why))
 
 -- The cycles of all causes are those of the path.
@@ -82,8 +85,10 @@ adds_up (event ∷ older) =
 -- They are no more than there were before its end,
 pub cycles-within : (cycles : ℕ) (path : List Event) → AreInTime cycles path → (account_of path).cycles ≤ cycles
 cycles-within cycles [] within = omega arith
-cycles-within cycles (event ∷ older) within = let rest = cycles-within event.cycle older within.1 in omega (arith, rest, within.0)
+cycles-within cycles (event ∷ older) within = let rest = cycles-within event.cycle older within.1 in
+    omega (arith, rest, within.0)
 
 -- and all that were.
-pub cycles-all : (event : Event) (older : List Event) → AreInTime event.cycle older → (account_of (event ∷ older)).cycles ≡ event.cycle
+pub cycles-all : (event : Event) (older : List Event) → AreInTime event.cycle older →
+    (account_of (event ∷ older)).cycles ≡ event.cycle
 cycles-all event older within = let rest = cycles-within event.cycle older within in omega (arith, rest)

@@ -40,9 +40,24 @@ again_have P (Some event) is = is
 -- an instruction that is found has an event at a stage
 pub stage_has : (P : Event → Type 0) (stage : Stage) (event : Event) (w : Way) → P event → IsWayOf P w
     → IsWayOf P (with_stage stage event w)
-stage_has P stage.Dispatch event w is are = record { fetch = are.fetch; dispatch = is; issue = are.issue; broadcast = are.broadcast }
-stage_has P stage.Issue event w is are = record { fetch = are.fetch; dispatch = are.dispatch; issue = is; broadcast = are.broadcast }
-stage_has P stage.Broadcast event w is are = record { fetch = are.fetch; dispatch = are.dispatch; issue = are.issue; broadcast = is }
+stage_has P stage.Dispatch event w is are = record {
+  fetch = are.fetch;
+  dispatch = is;
+  issue = are.issue;
+  broadcast = are.broadcast;
+}
+stage_has P stage.Issue event w is are = record {
+  fetch = are.fetch;
+  dispatch = are.dispatch;
+  issue = is;
+  broadcast = are.broadcast;
+}
+stage_has P stage.Broadcast event w is are = record {
+  fetch = are.fetch;
+  dispatch = are.dispatch;
+  issue = are.issue;
+  broadcast = is;
+}
 stage_has P stage.Begin event w is are = are
 stage_has P stage.Fetch event w is are = are
 stage_has P stage.Commit event w is are = are
@@ -79,7 +94,8 @@ module _ (s : Setting) (P : Event → Type 0) (holds : AreHoldsOf P s.holds) (be
       or_with V (room_by_leaving s leaving place) (option_or (room_by_issue s ws kind) (room_by_drain s))
       (if_with O (place == s.values.rob) (again_have P leaving.first gone.first) tt)
       (or_with V (room_by_issue s ws kind) (room_by_drain s) (room_by_issue_V kind)
-      (if_with O (s.before.facts.stores == s.values.store_queue) (after_drain_V s P V waits_V holds before cause.StoreQueueFull) tt))
+      (if_with O (s.before.facts.stores == s.values.store_queue)
+      (after_drain_V s P V waits_V holds before cause.StoreQueueFull) tt))
 
   after_previous_V : (place : ℕ) (o : Option Journey) → OJ P o → O (after_previous s place o)
   after_previous_V place None is = tt
@@ -92,7 +108,8 @@ module _ (s : Setting) (P : Event → Type 0) (holds : AreHoldsOf P s.holds) (be
   dispatch_wait_V p place w is =
       let last = one_before place s.rows ws in
       if_with V (p.fetched + 1 == s.number) is.fetch
-      (unwrap_with V (option_or (after_previous s place last) (room_for s ws leaving place p)) (waits cause.Other w.fetch)
+      (unwrap_with V (option_or (after_previous s place last) (room_for s ws leaving place p))
+      (waits cause.Other w.fetch)
       (or_with V (after_previous s place last) (room_for s ws leaving place p)
       (after_previous_V place last (one_before_have P place s.rows ws ws-are)) (room_for_V place p))
       is.fetch)
@@ -114,7 +131,8 @@ pub record IsKnownBy (P : Event → Type 0) (s : Setting) (leaving : Leaving) (w
   pub ways : AreWaysOf P ws
 
 -- what is known of the events by one property is known by a weaker one
-pub known_by_implies : (P Q : Event → Type 0) → ((event : Event) → P event → Q event) → (s : Setting) (leaving : Leaving) (ws : List Way)
+pub known_by_implies : (P Q : Event → Type 0) → ((event : Event) → P event → Q event) →
+    (s : Setting) (leaving : Leaving) (ws : List Way)
     → IsKnownBy P s leaving ws → IsKnownBy Q s leaving ws
 known_by_implies P Q implies s leaving ws is = record {
   holds = holds_imply P Q implies s.holds is.holds;
@@ -130,7 +148,8 @@ module _ (s : Setting) (P : List Event → Event → Type 0) (kept : IsKept s.el
 
   -- one advances
   advanced_K : (all : List Event) (ws : List Way) (place : ℕ) (j : Journey) (o : Option Move) → K all ws → J (P all) j
-      → IfSome o (λ (it : Move). P all it.waited.event) → K (with_events (new_advanced s j.row o) all) (advanced s place j o ws)
+      → IfSome o (λ (it : Move). P all it.waited.event) →
+      K (with_events (new_advanced s j.row o) all) (advanced s place j o ws)
   advanced_K all ws place j None known is has = known
   advanced_K all ws place j (Some it) known is has =
       let at : Point = record { stage = it.stage; number = j.row.number } in
@@ -145,7 +164,8 @@ module _ (s : Setting) (P : List Event → Event → Type 0) (kept : IsKept s.el
         gone = next.gone;
         new = next.new;
         ways = set_have now ws place (with_stage it.stage event j.way) next.ways
-            (stage_has now it.stage event j.way (wait_has s.elapsed P kept all s.refilled at (Some j.row.pc) it.waited has) way.0);
+            (stage_has now it.stage event j.way (wait_has s.elapsed P kept all s.refilled at (Some j.row.pc)
+            it.waited has) way.0);
       }
 
   moved_by_K : (all : List Event) (ws : List Way) (place : ℕ) (o : Option Journey) → K all ws → OJ (P all) o
@@ -160,7 +180,8 @@ module _ (s : Setting) (P : List Event → Event → Type 0) (kept : IsKept s.el
   moved_at_K all ws place known =
       let row = slice_get s.rows place in
       let way = slice_get ws place in
-      moved_by_K all ws place (journey_of row way) known (journey_have (P all) row way (get_have (P all) ws place known.ways))
+      moved_by_K all ws place (journey_of row way) known
+      (journey_have (P all) row way (get_have (P all) ws place known.ways))
 
   -- and all of them
   pub moved_up_to_K : (all : List Event) (ws : List Way) (place : ℕ) → K all ws
@@ -169,5 +190,6 @@ module _ (s : Setting) (P : List Event → Event → Type 0) (kept : IsKept s.el
   moved_up_to_K all ws (suc place) known =
       let so_far = new_up_to s leaving place ws in
       let ways = moved_up_to s leaving place ws in
-      subst (λ (events : List Event). K events (moved_up_to s leaving (suc place) ws)) (sym (with_both so_far (new_at s leaving place ways) all))
+      subst (λ (events : List Event). K events (moved_up_to s leaving (suc place) ws))
+      (sym (with_both so_far (new_at s leaving place ways) all))
       (moved_at_K (with_events so_far all) ways place (moved_up_to_K all ws place known))

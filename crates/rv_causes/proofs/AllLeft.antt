@@ -24,7 +24,8 @@ no-end (ending.Trapped cycle cause) runs = absurd cc
 no-end (ending.Squashed cycle) runs = refl
 
 -- of what is in flight nothing leaves
-open-rows : (s : Setting) (rows : List Passage) (ways : List Way) (leaving : Leaving) → list_all is_in_flight rows ≡ true
+open-rows : (s : Setting) (rows : List Passage) (ways : List Way) (leaving : Leaving) →
+    list_all is_in_flight rows ≡ true
     → with_rows s rows ways leaving ≡ leaving
 open-rows s [] ways leaving all = refl
 open-rows s (p ∷ ps) [] leaving all = refl
@@ -51,7 +52,8 @@ open-count (p ∷ ps) all = elim (cases_Bool (is_in_flight p)) [
   | inr ended ↦ let none : false ≡ true = rw ended at all in cc
 ]
 
-more-left : (p : Passage) (rows some : List Passage) → HasAllThatLeft rows some → (s : Setting) (ways : List Way) (leaving : Leaving)
+more-left : (p : Passage) (rows some : List Passage) → HasAllThatLeft rows some →
+    (s : Setting) (ways : List Way) (leaving : Leaving)
     → with_rows s (p ∷ some) ways leaving ≡ with_rows s (p ∷ rows) ways leaving
 more-left p rows some has s [] leaving = refl
 more-left p rows some has s (w ∷ ws) leaving = has.leaving s ws (with_row s p w leaving)
@@ -68,7 +70,8 @@ none-of rows all = record {
   count = sym (open-count rows all);
 }
 
-next-has : (p : Passage) (ps : List Passage) (count : ℕ) (o : Option ℕ) → ((n : ℕ) → o ≡ Some n → HasAllThatLeft ps (take n ps))
+next-has : (p : Passage) (ps : List Passage) (count : ℕ) (o : Option ℕ) →
+    ((n : ℕ) → o ≡ Some n → HasAllThatLeft ps (take n ps))
     → one_more o ≡ Some count → HasAllThatLeft (p ∷ ps) (take count (p ∷ ps))
 next-has p ps count None others is = absurd (none-some count is)
 next-has p ps count (Some n) others is =
@@ -77,7 +80,8 @@ next-has p ps count (Some n) others is =
     subst (λ (k : ℕ). HasAllThatLeft (p ∷ ps) (take k (p ∷ ps))) next (one-more p ps (take n ps) (others n refl))
 
 -- all that left are among the first so many, where so many can be forgotten
-pub all_left : (rows : List Passage) (count : ℕ) → forgotten_in rows ≡ Some count → HasAllThatLeft rows (take count rows)
+pub all_left : (rows : List Passage) (count : ℕ) → forgotten_in rows ≡ Some count →
+    HasAllThatLeft rows (take count rows)
 all_left [] count is = subst (λ (n : ℕ). HasAllThatLeft [] (take n [])) (same-count 0 count is) (none-of [] refl)
 all_left (p ∷ ps) count is = elim (cases_Bool (is_in_flight p)) [
   | inl flies ↦
@@ -86,7 +90,8 @@ all_left (p ∷ ps) count is = elim (cases_Bool (is_in_flight p)) [
         | inl all ↦
             let zero-is : Some 0 ≡ Some count = rw all at here in
             let both : list_all is_in_flight (p ∷ ps) ≡ true = rw flies all in
-            subst (λ (n : ℕ). HasAllThatLeft (p ∷ ps) (take n (p ∷ ps))) (same-count 0 count zero-is) (none-of (p ∷ ps) both)
+            subst (λ (n : ℕ). HasAllThatLeft (p ∷ ps) (take n (p ∷ ps))) (same-count 0 count zero-is)
+            (none-of (p ∷ ps) both)
         | inr some ↦ let none : None ≡ Some count = rw some at here in absurd (none-some count none)
       ]
   | inr ended ↦

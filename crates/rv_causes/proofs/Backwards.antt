@@ -56,15 +56,19 @@ module _ (events : List Event) (place : ℕ) (some : 0 < place) (within : place 
       → IsAmong (beyond (reverse (drop place events)) wanted) points
       → IsAmong (beyond (reverse (drop (place - 1) events)) wanted) left
   meet-covers points left wanted left_is among =
-      let past_it : beyond (reverse (drop (place - 1) events)) wanted ≡ beyond (event ∷ []) (beyond (reverse (drop place events)) wanted) =
+      let past_it : beyond (reverse (drop (place - 1) events)) wanted
+      ≡ beyond (event ∷ []) (beyond (reverse (drop place events)) wanted) =
       ap (λ es. beyond es wanted) newer-last ∙ beyond-append (reverse (drop place events)) (event ∷ []) wanted in
       subst (λ (w : Option Point). IsAmong w left) (sym past_it)
-      (subst (λ (ps : List Point). IsAmong (beyond (event ∷ []) (beyond (reverse (drop place events)) wanted)) ps) (sym left_is)
+      (subst (λ (ps : List Point). IsAmong (beyond (event ∷ []) (beyond (reverse (drop place events)) wanted)) ps)
+      (sym left_is)
       (passed-covers event (beyond (reverse (drop place events)) wanted) points among))
 
   -- one event further back, all points that are left come to the root through the older events
-  pub meet-come : (points left : List Point) (root : Option Point) → left ≡ passed event points → AllComeTo root (reverse (take place events)) points
+  pub meet-come : (points left : List Point) (root : Option Point) → left ≡ passed event points →
+      AllComeTo root (reverse (take place events)) points
       → AllComeTo root (reverse (take (place - 1) events)) left
   meet-come points left root left_is come =
       subst (λ (ps : List Point). AllComeTo root (reverse (take (place - 1) events)) ps) (sym left_is)
-      (passed-come root (reverse (take (place - 1) events)) event points (subst (λ (es : List Event). AllComeTo root es points) older-first come))
+      (passed-come root (reverse (take (place - 1) events)) event points
+      (subst (λ (es : List Event). AllComeTo root es points) older-first come))

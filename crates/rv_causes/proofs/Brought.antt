@@ -13,7 +13,8 @@ use Rattle.rv_causes.specs.Setting.{Setting}
 use Rattle.rv_causes.specs.declared.{event.Event.Event, seeing.Seen.Seen, way.Way.Way}
 
 -- what is kept after a cycle is known by the events so far, with those of the cycle
-pub known-seen : (s : Setting) (steps : List Step) (after : HardwareRead) (old now : List Way) (seen : Seen) (events : List Event)
+pub known-seen : (s : Setting) (steps : List Step) (after : HardwareRead) (old now : List Way)
+    (seen : Seen) (events : List Event)
     → IsSeen s steps after old now seen
     → record {
       ways = still_in_flight s.rows (with_fetched seen.fetch s.rows now);
@@ -25,7 +26,8 @@ known-seen s steps after old now seen events is =
     let leaving = leaving_of s old in
     let fetched =
     ap (λ (event : Option Event). still_in_flight s.rows (with_fetched event s.rows now)) is.fetched
-    ∙ (λ i. still_in_flight s.rows (with_fetched (fetch_event s (is.moved i) (is_interrupted steps) leaving after) s.rows (is.moved i))) in
+    ∙ (λ i. still_in_flight s.rows (with_fetched (fetch_event s (is.moved i) (is_interrupted steps) leaving after)
+    s.rows (is.moved i))) in
     let before = is.before ∙ ap (λ (ws : List Way). before_next s ws steps after leaving) is.moved in
     λ i. record {
       ways = fetched i;

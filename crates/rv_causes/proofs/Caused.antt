@@ -41,7 +41,8 @@ walk_caused standing known (moment ∷ moments) are =
     let cycle = next_cycle standing moment in
     let s = setting_in cycle.number (length cycle.reports - 1) cycle.passages.rows cycle.after known in
     walk_caused (standing_after still_open cycle) (known_after known cycle) moments
-    (cycle_keeps s IsAmong (among_kept s.elapsed) known.events known.ways cycle.report.steps (read_of cycle.after) are.holds are.before are.ways)
+    (cycle_keeps s IsAmong (among_kept s.elapsed) known.events known.ways cycle.report.steps (read_of cycle.after)
+    are.holds are.before are.ways)
 
 -- each event of a run waited for an older one as its cause says
 pub causes_are_so : CausesAreSo

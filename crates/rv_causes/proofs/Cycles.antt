@@ -58,7 +58,8 @@ TakenBy P N holder.Lines event = N event
 abbrev pub IsTakenBy : (Event → Type 0) → (Event → Type 0) → PortHold → Type 0
 IsTakenBy P N hold = TakenBy P N hold.holder hold.event
 
-taken_events : (P N : Event → Type 0) (by : Holder) (event : Event) → TakenBy P N by event → AllOf N (taken_event by event)
+taken_events : (P N : Event → Type 0) (by : Holder) (event : Event) → TakenBy P N by event →
+    AllOf N (taken_event by event)
 taken_events P N holder.Drain event is = (is, tt)
 taken_events P N holder.Load event is = tt
 taken_events P N holder.Lines event is = (is, tt)
@@ -67,13 +68,15 @@ port_events : (P N : Event → Type 0) (o : Option PortHold) → IfSome o (IsTak
 port_events P N None is = tt
 port_events P N (Some hold) is = taken_events P N hold.holder hold.event is
 
-taken_has : (P N Q : Event → Type 0) → ((event : Event) → P event → Q event) → (by : Holder) (event : Event) → TakenBy P N by event
+taken_has : (P N Q : Event → Type 0) → ((event : Event) → P event → Q event) → (by : Holder) (event : Event) →
+    TakenBy P N by event
     → AllOf Q (taken_event by event) → Q event
 taken_has P N Q implies holder.Drain event is are = are.0
 taken_has P N Q implies holder.Load event is are = implies event is
 taken_has P N Q implies holder.Lines event is are = are.0
 
-port_has : (P N Q : Event → Type 0) → ((event : Event) → P event → Q event) → (o : Option PortHold) → IfSome o (IsTakenBy P N)
+port_has : (P N Q : Event → Type 0) → ((event : Event) → P event → Q event) → (o : Option PortHold) →
+    IfSome o (IsTakenBy P N)
     → AllOf Q (port_event o) → IfSome o (λ hold. Q hold.event)
 port_has P N Q implies None is are = tt
 port_has P N Q implies (Some hold) is are = taken_has P N Q implies hold.holder hold.event is are
@@ -89,7 +92,8 @@ drain_kept_has : (Q : Event → Type 0) (number : ℕ) (o : Option DrainHold) �
     → IfSome (drain_kept number o) (λ drain. Q drain.event)
 drain_kept_has Q number None is = tt
 drain_kept_has Q number (Some drain) is =
-    if_with (λ (o : Option DrainHold). IfSome o (λ (drain : DrainHold). Q drain.event)) (nat_le number drain.until) is tt
+    if_with (λ (o : Option DrainHold). IfSome o (λ (drain : DrainHold). Q drain.event))
+    (nat_le number drain.until) is tt
 
 left_or : (Q : Event → Type 0) (new old : Option Left) → IfSome new (λ left. Q left.event) → Q (last_left old)
     → Q (last_left (option_or new old))
@@ -124,13 +128,15 @@ module _ (s : Setting) (P : Event → Type 0) (ws : List Way) (leaving : Leaving
   mend_of_V entry (Some journey) is =
       if_with O (is_mended s journey.row entry) (broadcast_have P journey.way is) tt
 
-  after_redirection_V : (interrupted : Bool) (after : HardwareRead) (first : Passage) → AllOf P (interrupt_taken s interrupted)
+  after_redirection_V : (interrupted : Bool) (after : HardwareRead) (first : Passage) →
+      AllOf P (interrupt_taken s interrupted)
       → O (after_redirection s ws interrupted leaving after first)
   after_redirection_V true after first are = are.0
   after_redirection_V false after first are =
       or_with V (after_flush leaving) (after_mend s ws after) (anew_by_V leaving.refill leaving.last known.gone.last)
       (if_with O (mends_early s.values.recovery)
-      (mend_of_V (youngest after.rob.entries) (last_of sought.Entry s.rows ws) (last_have P sought.Entry s.rows ws known.ways)) tt)
+      (mend_of_V (youngest after.rob.entries) (last_of sought.Entry s.rows ws)
+      (last_have P sought.Entry s.rows ws known.ways)) tt)
 
   after_word_V : (last : Journey) → J P last → O (after_word s ws last)
   after_word_V last is =
@@ -156,12 +162,14 @@ module _ (s : Setting) (P : Event → Type 0) (ws : List Way) (leaving : Leaving
       unwrap_with V (option_or (after_word s ws last) (after_room s ws)) (waits cause.Other last.way.fetch)
       (or_with V (after_word s ws last) (after_room s ws) (after_word_V last is) after_room_V) is.fetch
 
-  pub fetch_wait_V : (interrupted : Bool) (after : HardwareRead) (first : Passage) → AllOf P (interrupt_taken s interrupted)
+  pub fetch_wait_V : (interrupted : Bool) (after : HardwareRead) (first : Passage) →
+      AllOf P (interrupt_taken s interrupted)
       → V (fetch_wait s ws interrupted leaving after first)
   fetch_wait_V interrupted after first are =
       let last = one_before (length ws) s.rows ws in
       unwrap_with V (after_redirection s ws interrupted leaving after first) (goes_on s ws last)
-      (after_redirection_V interrupted after first are) (goes_on_V last (one_before_have P (length ws) s.rows ws known.ways))
+      (after_redirection_V interrupted after first are)
+      (goes_on_V last (one_before_have P (length ws) s.rows ws known.ways))
 
 -- the holds of units that begin in a cycle, and that of the port
 module _ (s : Setting) (P : Event → Type 0) where
@@ -171,20 +179,23 @@ module _ (s : Setting) (P : Event → Type 0) where
   hold_of_kind_has p w issue (Some kind) is =
       if_with (AreHoldsOf P) (at_kind kind s.values.kinds).pipelined tt (issued_have P w is, tt)
 
-  hold_of_has : (p : Passage) (w : Way) (o : Option Issue) → IsWayOf P w → AreHoldsOf P (hold_of s.number s.values p w o)
+  hold_of_has : (p : Passage) (w : Way) (o : Option Issue) → IsWayOf P w →
+      AreHoldsOf P (hold_of s.number s.values p w o)
   unfolding hold_of
   hold_of_has p w None is = tt
   hold_of_has p w (Some issue) is =
       if_with (AreHoldsOf P) (issue.cycle == s.number) (hold_of_kind_has p w issue (kind_of_word p.instruction) is) tt
 
-  pub new_holds_have : (ps : List Passage) (ws : List Way) → AreWaysOf P ws → AreHoldsOf P (new_holds s.number s.values ps ws)
+  pub new_holds_have : (ps : List Passage) (ws : List Way) → AreWaysOf P ws →
+      AreHoldsOf P (new_holds s.number s.values ps ws)
   new_holds_have [] ws are = tt
   new_holds_have (p ∷ ps) [] are = tt
   new_holds_have (p ∷ ps) (w ∷ ws) are =
       holds_append P (hold_of s.number s.values p w p.issue) (new_holds s.number s.values ps ws)
       (hold_of_has p w p.issue are.0) (new_holds_have ps ws are.1)
 
-  load_hold_has : (N : Event → Type 0) (until : ℕ) (o : Option Journey) → OJ P o → IfSome (load_hold until o) (IsTakenBy P N)
+  load_hold_has : (N : Event → Type 0) (until : ℕ) (o : Option Journey) → OJ P o →
+      IfSome (load_hold until o) (IsTakenBy P N)
   load_hold_has N until None is = tt
   load_hold_has N until (Some load) is = issued_have P load.way is
 
@@ -194,8 +205,10 @@ module _ (s : Setting) (P : Event → Type 0) where
   lines_hold_has N leaving until None new is = tt
   lines_hold_has N leaving until (Some head) new is = new head.row head.way is
 
-  pub port_taken_has : (N : Event → Type 0) (ws : List Way) (leaving : Leaving) (facts : Facts) → AreWaysOf P ws → N (drain_event s leaving)
-      → ((p : Passage) (w : Way) → IsWayOf P w → N (lines_event s leaving p w)) → IfSome (port_taken s ws leaving facts) (IsTakenBy P N)
+  pub port_taken_has : (N : Event → Type 0) (ws : List Way) (leaving : Leaving) (facts : Facts) → AreWaysOf P ws →
+      N (drain_event s leaving)
+      → ((p : Passage) (w : Way) → IsWayOf P w → N (lines_event s leaving p w)) →
+      IfSome (port_taken s ws leaving facts) (IsTakenBy P N)
   port_taken_has N ws leaving facts are drain lines =
       let until = facts.port_free in
       let what = sought.LoadUntil s.number until in
@@ -204,37 +217,45 @@ module _ (s : Setting) (P : Event → Type 0) where
       let T = IsTakenBy P N in
       if_with (λ (o : Option PortHold). IfSome o T) (is_taken s facts)
       (if_with (λ (o : Option PortHold). IfSome o T) (is_begun s facts.drain_end) drain
-      (or_with T (load_hold until load) (lines_hold s leaving until head) (load_hold_has N until load (first_have P what s.rows ws are))
+      (or_with T (load_hold until load) (lines_hold s leaving until head)
+      (load_hold_has N until load (first_have P what s.rows ws are))
       (lines_hold_has N leaving until head lines (first_have P sought.FenceI s.rows ws are)))) tt
 
 module _ (s : Setting) (P : List Event → Event → Type 0) (kept : IsKept s.elapsed P) where
   -- that of what left, and of the words that were fetched
-  left_by_has : (Q : Event → Type 0) (count : ℕ) (o : Option Event) → IfSome o Q → IfSome (left_by s count o) (λ left. Q left.event)
+  left_by_has : (Q : Event → Type 0) (count : ℕ) (o : Option Event) → IfSome o Q →
+      IfSome (left_by s count o) (λ left. Q left.event)
   left_by_has Q count None is = tt
   left_by_has Q count (Some event) is = is
 
-  newly_left_has : (Q : Event → Type 0) (interrupted : Bool) (leaving : Leaving) → AllOf Q (interrupt_taken s interrupted)
+  newly_left_has : (Q : Event → Type 0) (interrupted : Bool) (leaving : Leaving) →
+      AllOf Q (interrupt_taken s interrupted)
       → AreLeavingOf Q leaving
       → IfSome (newly_left s interrupted leaving) (λ left. Q left.event)
   newly_left_has Q true leaving are gone = are.0
-  newly_left_has Q false leaving are gone = left_by_has Q (count_by (is_sought sought.Ended) s.rows) leaving.last gone.last
+  newly_left_has Q false leaving are gone = left_by_has Q (count_by (is_sought sought.Ended) s.rows)
+      leaving.last gone.last
 
-  interrupts_new : (Q : Event → Type 0) (interrupted : Bool) → Q (interrupt_event s) → AllOf Q (interrupt_taken s interrupted)
+  interrupts_new : (Q : Event → Type 0) (interrupted : Bool) → Q (interrupt_event s) →
+      AllOf Q (interrupt_taken s interrupted)
   interrupts_new Q true is = (is, tt)
   interrupts_new Q false is = tt
 
   fetched_have : (Q : Event → Type 0) (o : Option Event) (count : ℕ) → IfSome o Q → AreWaysOf Q (ways_by o count)
   fetched_have Q None count is = tt
-  fetched_have Q (Some event) count is = replicate_have Q count (way_from event) (record { fetch = is; dispatch = tt; issue = tt; broadcast = tt })
+  fetched_have Q (Some event) count is =
+      replicate_have Q count (way_from event) (record { fetch = is; dispatch = tt; issue = tt; broadcast = tt })
 
   -- the words that are fetched, and all that is known before them
-  module _ (all : List Event) (ws : List Way) (leaving : Leaving) (interrupted : Bool) (after : HardwareRead) (known : IsKnownBy (P all) s leaving ws)
+  module _ (all : List Event) (ws : List Way) (leaving : Leaving) (interrupted : Bool) (after : HardwareRead)
+      (known : IsKnownBy (P all) s leaving ws)
       (taken : AllOf (P all) (interrupt_taken s interrupted)) where
     fetched_waits : (first : Passage) → P all (fetch_wait s ws interrupted leaving after first).event
     fetched_waits first = fetch_wait_V s (P all) ws leaving known interrupted after first taken
 
     pub fetch_has : (o : Option Passage)
-        → IfSome (fetched_by s ws interrupted leaving after o) (P (with_events (new_fetched s ws interrupted leaving after o) all))
+        → IfSome (fetched_by s ws interrupted leaving after o)
+        (P (with_events (new_fetched s ws interrupted leaving after o) all))
     fetch_has None = tt
     fetch_has (Some first) =
         wait_has s.elapsed P kept all s.refilled (record { stage = stage.Fetch; number = first.number }) (Some first.pc)
@@ -244,12 +265,15 @@ module _ (s : Setting) (P : List Event → Event → Type 0) (kept : IsKept s.el
         → P (with_events (new_fetched s ws interrupted leaving after o) all) event
     fetch_still None event is = is
     fetch_still (Some first) event is =
-        wait_still s.elapsed P kept all s.refilled (record { stage = stage.Fetch; number = first.number }) (Some first.pc)
+        wait_still s.elapsed P kept all s.refilled
+        (record { stage = stage.Fetch; number = first.number }) (Some first.pc)
         (fetch_wait s ws interrupted leaving after first) (fetched_waits first) event is
 
   -- what is known after the cycle, by the list of all events then
-  known_next : (Q : Event → Type 0) (now : List Way) (steps : List Step) (after : HardwareRead) (leaving : Leaving) → IsKnownBy Q s leaving now
-      → IfSome (fetch_event s now (is_interrupted steps) leaving after) Q → AllOf Q (interrupt_taken s (is_interrupted steps))
+  known_next : (Q : Event → Type 0) (now : List Way) (steps : List Step) (after : HardwareRead) (leaving : Leaving) →
+      IsKnownBy Q s leaving now
+      → IfSome (fetch_event s now (is_interrupted steps) leaving after) Q →
+      AllOf Q (interrupt_taken s (is_interrupted steps))
       → AllOf Q (port_event (port_taken s now leaving after.facts))
       → IfSome (port_taken s now leaving after.facts) (λ hold. Q hold.event)
       → (old : List Way) (all : List Event) → AreKnown Q (known_by s old now all steps after leaving)
@@ -258,7 +282,12 @@ module _ (s : Setting) (P : List Event → Event → Type 0) (kept : IsKept s.el
       let facts = after.facts in
       let event = fetch_event s now interrupted leaving after in
       let count = length s.rows - length now in
-      let hold : PortHold = record { until = facts.port_free; event = drain_event s leaving; holder = holder.Drain; number = 0 } in
+      let hold : PortHold = record {
+        until = facts.port_free;
+        event = drain_event s leaving;
+        holder = holder.Drain;
+        number = 0;
+      } in
       let drain : DrainHold = record { until = facts.port_free; event = drain_event s leaving } in
       let load = load_hold facts.port_free (first_of (sought.LoadUntil s.number facts.port_free) s.rows now) in
       let lines = lines_hold s leaving facts.port_free (first_of sought.FenceI s.rows now) in
@@ -270,10 +299,13 @@ module _ (s : Setting) (P : List Event → Event → Type 0) (kept : IsKept s.el
         before = record {
           left = left_or Q (newly_left s interrupted leaving) s.before.left
               (newly_left_has Q interrupted leaving interrupts known.gone) known.before.left;
-          port = or_with (λ (hold : PortHold). Q hold.event) (port_taken s now leaving facts) (port_kept s.number s.before.port)
+          port = or_with (λ (hold : PortHold). Q hold.event) (port_taken s now leaving facts)
+              (port_kept s.number s.before.port)
               port (port_kept_has Q s.number s.before.port known.before.port);
-          drain = or_with (λ (drain : DrainHold). Q drain.event) (drain_begun s leaving facts) (drain_kept s.number s.before.drain)
-              (drain_has Q (is_taken s facts) (is_begun s facts.drain_end) drain hold (option_or load lines) refl refl ports)
+          drain = or_with (λ (drain : DrainHold). Q drain.event) (drain_begun s leaving facts)
+              (drain_kept s.number s.before.drain)
+              (drain_has Q (is_taken s facts) (is_begun s facts.drain_end) drain hold
+              (option_or load lines) refl refl ports)
               (drain_kept_has Q s.number s.before.drain known.before.drain);
         };
       }
@@ -292,7 +324,8 @@ module _ (s : Setting) (P : List Event → Event → Type 0) (kept : IsKept s.el
 
   -- those that leave, and what is known with them
   left_known : (all : List Event) (old : List Way) → AreHoldsOf (P all) s.holds → IsBeforeOf (P all) s.before
-      → AreWaysOf (P all) old → IsKnownBy (P (with_events (left_events (leaving_of s old)) all)) s (leaving_of s old) old
+      → AreWaysOf (P all) old →
+      IsKnownBy (P (with_events (left_events (leaving_of s old)) all)) s (leaving_of s old) old
   left_known all old holds before old-are =
       let leaving = leaving_of s old in
       let left = left_events leaving in
@@ -304,12 +337,14 @@ module _ (s : Setting) (P : List Event → Event → Type 0) (kept : IsKept s.el
         holds = holds_imply (P all) now still s.holds holds;
         before = before_implies (P all) now still s.before before;
         gone = left_events_are now leaving (all_new_have s.elapsed P kept all left new);
-        new = leaving_implies (IsNew (P all) s.elapsed) (IsNew now s.elapsed) (new_implies (P all) now s.elapsed still) leaving gone;
+        new = leaving_implies (IsNew (P all) s.elapsed) (IsNew now s.elapsed)
+            (new_implies (P all) now s.elapsed still) leaving gone;
         ways = ways_imply (P all) now still old old-are;
       }
 
   -- what is known after the cycle
-  pub cycle_keeps : (all : List Event) (old : List Way) (steps : List Step) (after : HardwareRead) → AreHoldsOf (P all) s.holds
+  pub cycle_keeps : (all : List Event) (old : List Way) (steps : List Step) (after : HardwareRead) →
+      AreHoldsOf (P all) s.holds
       → IsBeforeOf (P all) s.before → AreWaysOf (P all) old
       → AreKnown (P (known_in s old all steps after).events) (known_in s old all steps after)
   cycle_keeps all old steps after holds before old-are =
@@ -319,7 +354,8 @@ module _ (s : Setting) (P : List Event → Event → Type 0) (kept : IsKept s.el
       let left = left_events leaving in
       let moves = all_new s leaving old in
       let moved = with_events moves (with_events left all) in
-      let known = moved_up_to_K s P kept leaving (with_events left all) old (length old) (left_known all old holds before old-are) in
+      let known = moved_up_to_K s P kept leaving (with_events left all) old (length old)
+      (left_known all old holds before old-are) in
       let N = IsNew (P moved) s.elapsed in
       let interrupts = interrupt_taken s interrupted in
       let taken = port_taken s now leaving after.facts in
@@ -343,5 +379,6 @@ module _ (s : Setting) (P : List Event → Event → Type 0) (kept : IsKept s.el
       let known-end = known_by_implies (P beside) (P end) on s leaving now known-beside in
       let events = in_turn left moves interrupts ports (new_fetched s now interrupted leaving after first) all in
       subst (λ (all-now : List Event). AreKnown (P all-now) (known_in s old all steps after)) (sym events)
-      (known_next (P end) now steps after leaving known-end fetch (all_imply (P beside) (P end) on interrupts interrupts-beside)
+      (known_next (P end) now steps after leaving known-end fetch
+      (all_imply (P beside) (P end) on interrupts interrupts-beside)
       ports-end port old all)

@@ -19,7 +19,9 @@ no-drain s leaving until None (Some head) = refl
 no-drain s leaving until None None = refl
 
 drain-taken : (until : ℕ) (event : Event) (other : Option PortHold) (taken begun : Bool) → drain_of other ≡ None
-    → drain_of (if taken then (if begun then Some (record { until = until; event = event; holder = holder.Drain; number = 0 }) else other) else None)
+    → drain_of (if taken then
+    (if begun then Some (record { until = until; event = event; holder = holder.Drain; number = 0 })
+    else other) else None)
     ≡ (if taken && begun then Some (record { until = until; event = event }) else None)
 drain-taken until event other true true none = refl
 drain-taken until event other true false none = none

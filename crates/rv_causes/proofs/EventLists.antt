@@ -37,7 +37,8 @@ unwrap_with Q None d o-is d-is = d-is
 unwrap_with Q (Some x) d o-is d-is = o-is
 
 -- those that are found have their events among all
-pub sought_have : (P : Event → Type 0) (sought : Sought) (p : Passage) (w : Way) → IsWayOf P w → IfSome (sought_of sought p w) (J P)
+pub sought_have : (P : Event → Type 0) (sought : Sought) (p : Passage) (w : Way) → IsWayOf P w →
+    IfSome (sought_of sought p w) (J P)
 sought_have P sought p w within =
     if_with (OJ P) (is_sought sought p) within tt
 
@@ -55,10 +56,12 @@ pub last_have : (P : Event → Type 0) (sought : Sought) (ps : List Passage) (ws
 last_have P sought [] ws within = tt
 last_have P sought (p ∷ ps) [] within = tt
 last_have P sought (p ∷ ps) (w ∷ ws) within =
-    or_with (J P) (last_of sought ps ws) (sought_of sought p w) (last_have P sought ps ws within.1) (sought_have P sought p w within.0)
+    or_with (J P) (last_of sought ps ws) (sought_of sought p w) (last_have P sought ps ws within.1)
+    (sought_have P sought p w within.0)
 
 -- it holds of the one at a place
-pub get_have : (P : Event → Type 0) (ws : List Way) (place : ℕ) → AreWaysOf P ws → IfSome (slice_get ws place) (IsWayOf P)
+pub get_have : (P : Event → Type 0) (ws : List Way) (place : ℕ) → AreWaysOf P ws →
+    IfSome (slice_get ws place) (IsWayOf P)
 get_have P [] place within = tt
 get_have P (w ∷ ws) zero within = within.0
 get_have P (w ∷ ws) (suc place) within = get_have P ws place within.1
@@ -74,7 +77,8 @@ replicate_have P zero w within = tt
 replicate_have P (suc count) w within = (within, replicate_have P count w within)
 
 -- it holds of the ways of what is still in flight
-pub in_flight_have : (P : Event → Type 0) (ps : List Passage) (ws : List Way) → AreWaysOf P ws → AreWaysOf P (still_in_flight ps ws)
+pub in_flight_have : (P : Event → Type 0) (ps : List Passage) (ws : List Way) → AreWaysOf P ws →
+    AreWaysOf P (still_in_flight ps ws)
 in_flight_have P [] ws within = tt
 in_flight_have P (p ∷ ps) [] within = tt
 in_flight_have P (p ∷ ps) (w ∷ ws) within =
@@ -82,18 +86,21 @@ in_flight_have P (p ∷ ps) (w ∷ ws) within =
     (if_with (AreWaysOf P) (is_in_flight p) (within.0, tt) tt) (in_flight_have P ps ws within.1)
 
 -- it holds of two lists of holds, one after the other
-pub holds_append : (P : Event → Type 0) (hs gs : List UnitHold) → AreHoldsOf P hs → AreHoldsOf P gs → AreHoldsOf P (hs ++ gs)
+pub holds_append : (P : Event → Type 0) (hs gs : List UnitHold) → AreHoldsOf P hs → AreHoldsOf P gs →
+    AreHoldsOf P (hs ++ gs)
 holds_append P [] gs hs-are gs-are = gs-are
 holds_append P (h ∷ hs) gs hs-are gs-are = (hs-are.0, holds_append P hs gs hs-are.1 gs-are)
 
 -- it holds of the holds that pass a test
-pub holds_filter : (P : Event → Type 0) (test : UnitHold → Bool) (hs : List UnitHold) → AreHoldsOf P hs → AreHoldsOf P (filter test hs)
+pub holds_filter : (P : Event → Type 0) (test : UnitHold → Bool) (hs : List UnitHold) → AreHoldsOf P hs →
+    AreHoldsOf P (filter test hs)
 holds_filter P test [] within = tt
 holds_filter P test (h ∷ hs) within =
     if_with (AreHoldsOf P) (test h) (within.0, holds_filter P test hs within.1) (holds_filter P test hs within.1)
 
 -- the one before a place is among them
-pub journey_have : (P : Event → Type 0) (p : Option Passage) (w : Option Way) → IfSome w (IsWayOf P) → IfSome (journey_of p w) (J P)
+pub journey_have : (P : Event → Type 0) (p : Option Passage) (w : Option Way) → IfSome w (IsWayOf P) →
+    IfSome (journey_of p w) (J P)
 journey_have P None w within = tt
 journey_have P (Some p) None within = tt
 journey_have P (Some p) (Some w) within = within

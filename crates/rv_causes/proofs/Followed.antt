@@ -43,10 +43,12 @@ pathing_nothing first path rows rows_are ways holds before window passes = recor
 }
 
 -- room for one more
-pub pathing_still : (path path' : Path) (k : Known) → ((events : List Event) → known_of_path path' events ≡ known_of_path path events)
+pub pathing_still : (path path' : Path) (k : Known) →
+    ((events : List Event) → known_of_path path' events ≡ known_of_path path events)
     → ArePathsKept path path' → IsKnown path k → IsKnown path' k
 pathing_still path path' k same kept on =
-    let here : AreKnown (PassesIn path) (known_of_path path k.events) = subst (AreKnown (PassesIn path)) (sym on.known) on.passes in
+    let here : AreKnown (PassesIn path) (known_of_path path k.events) =
+    subst (AreKnown (PassesIn path)) (sym on.known) on.passes in
     let still = kept (live_in path.window.root (kept_events path.window) (known_of_path path k.events) here) in
     record {
       known = same k.events ∙ on.known;
@@ -70,8 +72,10 @@ followed_on path path' cycle k on followed made_is =
     let kept = kept_events path.window in
     let here : AreKnown (PassesIn path) old = subst (AreKnown (PassesIn path)) (sym on.known) on.passes in
     let lead =
-    cycle_keeps s (Leads root) (leads_kept s.elapsed root) kept old.ways cycle.steps cycle.after here.holds here.before here.ways in
-    let pass = known_implies (Leads root (with_events made kept)) (PassesIn path') (passes_followed made path.window path'.window made_is)
+    cycle_keeps s (Leads root) (leads_kept s.elapsed root) kept old.ways cycle.steps cycle.after here.holds
+    here.before here.ways in
+    let pass = known_implies (Leads root (with_events made kept)) (PassesIn path')
+    (passes_followed made path.window path'.window made_is)
     (known_in s old.ways kept cycle.steps cycle.after) lead in
     record {
       known = followed k.events;

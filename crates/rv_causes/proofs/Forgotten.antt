@@ -23,7 +23,8 @@ pub same-count : (count other : ℕ) → Some count ≡ Some other → count ≡
 same-count count other is = ap (λ (o : Option ℕ). unwrap_or o 0) is
 
 -- where all are in flight, none is left out
-open-all : (rows : List Passage) (ways : List Way) → list_all is_in_flight rows ≡ true → length ways ≡ length rows → still_in_flight rows ways ≡ ways
+open-all : (rows : List Passage) (ways : List Way) → list_all is_in_flight rows ≡ true → length ways ≡ length rows →
+    still_in_flight rows ways ≡ ways
 open-all [] [] all long = refl
 open-all [] (w ∷ ws) all long = absurd (omega (arith, long))
 open-all (p ∷ ps) [] all long = refl
@@ -35,20 +36,24 @@ open-all (p ∷ ps) (w ∷ ws) all long = elim (cases_Bool (is_in_flight p)) [
   | inr ended ↦ let none : false ≡ true = rw ended at all in cc
 ]
 
-none-forgotten : (ps : List Passage) (w : Way) (ws : List Way) (count : ℕ) (all : Bool) → (all ≡ true → still_in_flight ps ws ≡ ws)
+none-forgotten : (ps : List Passage) (w : Way) (ws : List Way) (count : ℕ) (all : Bool) →
+    (all ≡ true → still_in_flight ps ws ≡ ws)
     → (if all then Some 0 else None) ≡ Some count → w ∷ still_in_flight ps ws ≡ drop count (w ∷ ws)
-none-forgotten ps w ws count true others is = ap (λ l. w ∷ l) (others refl) ∙ ap (λ n. drop n (w ∷ ws)) (same-count 0 count is)
+none-forgotten ps w ws count true others is = ap (λ l. w ∷ l) (others refl)
+    ∙ ap (λ n. drop n (w ∷ ws)) (same-count 0 count is)
 none-forgotten ps w ws count false others is = absurd (none-some count is)
 
 more-forgotten : (ps : List Passage) (w : Way) (ws : List Way) (count : ℕ) (o : Option ℕ)
-    → ((n : ℕ) → o ≡ Some n → still_in_flight ps ws ≡ drop n ws) → one_more o ≡ Some count → still_in_flight ps ws ≡ drop count (w ∷ ws)
+    → ((n : ℕ) → o ≡ Some n → still_in_flight ps ws ≡ drop n ws) → one_more o ≡ Some count →
+    still_in_flight ps ws ≡ drop count (w ∷ ws)
 more-forgotten ps w ws count None others is = absurd (none-some count is)
 more-forgotten ps w ws count (Some n) others is =
     let one : 1 + n ≡ count = same-count (1 + n) count is in
     let next : suc n ≡ count = omega (arith, one) in
     others n refl ∙ ap (λ k. drop k (w ∷ ws)) next
 
-pub forgotten : (rows : List Passage) (ways : List Way) (count : ℕ) → forgotten_in rows ≡ Some count → length ways ≡ length rows
+pub forgotten : (rows : List Passage) (ways : List Way) (count : ℕ) → forgotten_in rows ≡ Some count →
+    length ways ≡ length rows
     → still_in_flight rows ways ≡ drop count ways
 forgotten [] [] count is long = ap (λ (n : ℕ). drop n []) (same-count 0 count is)
 forgotten [] (w ∷ ws) count is long = absurd (omega (arith, long))
@@ -68,7 +73,8 @@ few-here : (long count : ℕ) (all : Bool) → (if all then Some 0 else None) �
 few-here long count true is = omega (arith, same-count 0 count is)
 few-here long count false is = absurd (none-some count is)
 
-few-more : (long count : ℕ) (o : Option ℕ) → ((n : ℕ) → o ≡ Some n → n ≤ long) → one_more o ≡ Some count → count ≤ long + 1
+few-more : (long count : ℕ) (o : Option ℕ) → ((n : ℕ) → o ≡ Some n → n ≤ long) → one_more o ≡ Some count →
+    count ≤ long + 1
 few-more long count None others is = absurd (none-some count is)
 few-more long count (Some n) others is = omega (arith, same-count (1 + n) count is, others n refl)
 
@@ -84,8 +90,12 @@ forgotten-few (p ∷ ps) count is = elim (cases_Bool (is_in_flight p)) [
 ]
 
 -- the events of those that left go, where there is one of each
-pub are_forgotten : (rows : List Passage) (ways : List Way) (ended : Option ℕ) → ended ≡ forgotten_in rows → length ways ≡ length rows
+pub are_forgotten : (rows : List Passage) (ways : List Way) (ended : Option ℕ) → ended ≡ forgotten_in rows →
+    length ways ≡ length rows
     → IfSome ended (AreForgotten rows ways)
 are_forgotten rows ways None is long = tt
 are_forgotten rows ways (Some count) is long =
-    record { few = omega (arith, long, forgotten-few rows count (sym is)); others = forgotten rows ways count (sym is) long }
+    record {
+      few = omega (arith, long, forgotten-few rows count (sym is));
+      others = forgotten rows ways count (sym is) long;
+    }

@@ -32,8 +32,10 @@ pub record AreLeavingOf (Q : Event → Type 0) (leaving : Leaving) : Type 0 wher
 -- what holds of all that a cycle's leaving brought holds of the list of its events
 pub left_events_have : (Q : Event → Type 0) (leaving : Leaving) → AreLeavingOf Q leaving → AllOf Q (left_events leaving)
 left_events_have Q leaving are =
-    all_both Q (option_to_list leaving.first) (option_to_list leaving.store ++ option_to_list leaving.last) (all_some Q leaving.first are.first)
-    (all_both Q (option_to_list leaving.store) (option_to_list leaving.last) (all_some Q leaving.store are.store) (all_some Q leaving.last are.last))
+    all_both Q (option_to_list leaving.first) (option_to_list leaving.store ++ option_to_list leaving.last)
+    (all_some Q leaving.first are.first)
+    (all_both Q (option_to_list leaving.store) (option_to_list leaving.last) (all_some Q leaving.store are.store)
+    (all_some Q leaving.last are.last))
 
 -- and what holds of the list of its events holds of all that it brought
 pub left_events_are : (Q : Event → Type 0) (leaving : Leaving) → AllOf Q (left_events leaving) → AreLeavingOf Q leaving
@@ -49,7 +51,8 @@ left_events_are Q leaving are =
     }
 
 -- what implies another property of an event implies it of those of a leaving
-pub leaving_implies : (P Q : Event → Type 0) → ((event : Event) → P event → Q event) → (leaving : Leaving) → AreLeavingOf P leaving
+pub leaving_implies : (P Q : Event → Type 0) → ((event : Event) → P event → Q event) → (leaving : Leaving) →
+    AreLeavingOf P leaving
     → AreLeavingOf Q leaving
 leaving_implies P Q implies leaving are =
     left_events_are Q leaving (all_imply P Q implies (left_events leaving) (left_events_have P leaving are))
@@ -80,29 +83,35 @@ module _ (s : Setting) (P : Event → Type 0) (holds : AreHoldsOf P s.holds) (be
       (first_to_leave_V s P (VR stage.Commit p) (waits_VR stage.Commit p) holds before p)
       (waits_VR stage.Commit p cause.Other (dispatched_by w) (dispatched_have P w w-is))
 
-  leaving_event_N : (earlier : Option Event) (p : Passage) (w : Way) → IfSome earlier N → IsWayOf P w → N (leaving_event s earlier p w)
+  leaving_event_N : (earlier : Option Event) (p : Passage) (w : Way) → IfSome earlier N → IsWayOf P w →
+      N (leaving_event s earlier p w)
   leaving_event_N earlier p w earlier-is w-is =
       if_with (VR stage.Commit p) (is_just_before s.number (known_in p))
-      (waits_VR stage.Commit p cause.Commit (broadcast_by w) (broadcast_have P w w-is)) (leaves_after_V earlier p w earlier-is w-is)
+      (waits_VR stage.Commit p cause.Commit (broadcast_by w) (broadcast_have P w w-is))
+      (leaves_after_V earlier p w earlier-is w-is)
 
   with_event_N : (event : Event) (p : Passage) (leaving : Leaving) → N event → AreLeavingOf N leaving
       → AreLeavingOf N (with_event s event p leaving)
   with_event_N event p leaving is are = record {
     first = or_with N leaving.first (Some event) are.first is;
     last = is;
-    store = if_with (λ (o : Option Event). IfSome o N) (is_retired_store p) (or_with N leaving.store (Some event) are.store is) are.store;
+    store = if_with (λ (o : Option Event). IfSome o N) (is_retired_store p)
+        (or_with N leaving.store (Some event) are.store is) are.store;
   }
 
-  with_row_N : (p : Passage) (w : Way) (leaving : Leaving) → IsWayOf P w → AreLeavingOf N leaving → AreLeavingOf N (with_row s p w leaving)
+  with_row_N : (p : Passage) (w : Way) (leaving : Leaving) → IsWayOf P w → AreLeavingOf N leaving →
+      AreLeavingOf N (with_row s p w leaving)
   with_row_N p w leaving w-is are =
       if_with (AreLeavingOf N) (is_end p.ending)
-      (with_event_N (leaving_event s leaving.last p w) p leaving (leaving_event_N leaving.last p w are.last w-is) are) are
+      (with_event_N (leaving_event s leaving.last p w) p leaving (leaving_event_N leaving.last p w are.last w-is) are)
+      are
 
   with_rows_N : (ps : List Passage) (ws : List Way) (leaving : Leaving) → AreWaysOf P ws → AreLeavingOf N leaving
       → AreLeavingOf N (with_rows s ps ws leaving)
   with_rows_N [] ws leaving ws-are are = are
   with_rows_N (p ∷ ps) [] leaving ws-are are = are
-  with_rows_N (p ∷ ps) (w ∷ ws) leaving ws-are are = with_rows_N ps ws (with_row s p w leaving) ws-are.1 (with_row_N p w leaving ws-are.0 are)
+  with_rows_N (p ∷ ps) (w ∷ ws) leaving ws-are are =
+      with_rows_N ps ws (with_row s p w leaving) ws-are.1 (with_row_N p w leaving ws-are.0 are)
 
   -- the events by which instructions leave in a cycle are new
   pub leaving_new : (ws : List Way) → AreWaysOf P ws → AreLeavingOf N (leaving_of s ws)
@@ -126,7 +135,8 @@ module _ (s : Setting) (P : Event → Type 0) (holds : AreHoldsOf P s.holds) (be
       let last = last_left s.before.left in
       unwrap_with (V at address) (option_or (at_its_commit s leaving) (after_port s)) (waits cause.Other last)
       (or_with (V at address) (at_its_commit s leaving) (after_port s)
-      (if_with (λ (o : Option Wait). IfSome o (V at address)) s.before.facts.is_store_waiting tt (again_N at address leaving.store gone.store))
+      (if_with (λ (o : Option Wait). IfSome o (V at address)) s.before.facts.is_store_waiting tt
+      (again_N at address leaving.store gone.store))
       (after_port_V s P (V at address) (waits_V at address) holds before))
       (waits_V at address cause.Other last before.left)
 
@@ -139,7 +149,9 @@ module _ (s : Setting) (P : Event → Type 0) (holds : AreHoldsOf P s.holds) (be
       (waits_VR stage.Lines p cause.Other (dispatched_by w) (dispatched_have P w w-is))
 
   -- the event by which all lines begin to be written back is new
-  pub lines_new : (leaving : Leaving) (p : Passage) (w : Way) → AreLeavingOf N leaving → IsWayOf P w → N (lines_event s leaving p w)
+  pub lines_new : (leaving : Leaving) (p : Passage) (w : Way) → AreLeavingOf N leaving → IsWayOf P w →
+      N (lines_event s leaving p w)
   lines_new leaving p w gone w-is =
       if_with (VR stage.Lines p) (is_just_before s.number p.dispatched)
-      (waits_VR stage.Lines p cause.Commit (dispatched_by w) (dispatched_have P w w-is)) (lines_after_V leaving.last p w gone.last w-is)
+      (waits_VR stage.Lines p cause.Commit (dispatched_by w) (dispatched_have P w w-is))
+      (lines_after_V leaving.last p w gone.last w-is)

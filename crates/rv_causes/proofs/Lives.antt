@@ -42,7 +42,8 @@ module _ (root : Option Point) (all : List Event) where
   way_in w is = (
     is.fetch,
     both (point_of w.dispatch) (point_of w.issue ++ point_of w.broadcast) (point_in w.dispatch is.dispatch)
-        (both (point_of w.issue) (point_of w.broadcast) (point_in w.issue is.issue) (point_in w.broadcast is.broadcast)),
+        (both (point_of w.issue) (point_of w.broadcast) (point_in w.issue is.issue)
+        (point_in w.broadcast is.broadcast)),
   )
 
   way_out : (w : Way) → A (way_points w) → IsWayOf L w
@@ -89,8 +90,11 @@ module _ (root : Option Point) (all : List Event) where
   drain_out (Some drain) are = are.0
 
   before_in : (before : Before) → IsBeforeOf L before → A (before_points before)
-  before_in before is =
-      (is.left, both (port_points before.port) (drain_points before.drain) (port_in before.port is.port) (drain_in before.drain is.drain))
+  before_in before is = (
+    is.left,
+    both (port_points before.port) (drain_points before.drain) (port_in before.port is.port)
+        (drain_in before.drain is.drain),
+  )
 
   before_out : (before : Before) → A (before_points before) → IsBeforeOf L before
   before_out before are = record {
@@ -102,8 +106,10 @@ module _ (root : Option Point) (all : List Event) where
   -- where all that is known leads to the root, all points that are live do
   pub live_in : (known : Known) → AreKnown L known → A (live_points known.ways known.holds known.before)
   live_in known are =
-      both (before_points known.before) (holds_points known.holds ++ ways_points known.ways) (before_in known.before are.before)
-      (both (holds_points known.holds) (ways_points known.ways) (holds_in known.holds are.holds) (ways_in known.ways are.ways))
+      both (before_points known.before) (holds_points known.holds ++ ways_points known.ways)
+      (before_in known.before are.before)
+      (both (holds_points known.holds) (ways_points known.ways) (holds_in known.holds are.holds)
+      (ways_in known.ways are.ways))
 
   -- and where all points that are live lead to it, all that is known does
   pub live_out : (known : Known) → A (live_points known.ways known.holds known.before) → AreKnown L known
@@ -112,5 +118,6 @@ module _ (root : Option Point) (all : List Event) where
       record {
         ways = ways_out known.ways (back (holds_points known.holds) (ways_points known.ways) later);
         holds = holds_out known.holds (front (holds_points known.holds) (ways_points known.ways) later);
-        before = before_out known.before (front (before_points known.before) (holds_points known.holds ++ ways_points known.ways) are);
+        before = before_out known.before
+            (front (before_points known.before) (holds_points known.holds ++ ways_points known.ways) are);
       }

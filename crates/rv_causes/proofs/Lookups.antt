@@ -27,9 +27,11 @@ first_none sought (suc k) (p ∷ ps) ways none = first_none sought k ps ways non
 pub first_here : (sought : Sought) (k : ℕ) (rows : List Passage) (ways : List Way) (p : Passage) (w : Way)
     → slice_get rows k ≡ Some p → slice_get ways k ≡ Some w
     → first_of sought (drop k rows) (drop k ways)
-    ≡ (if is_sought sought p then Some (record { row = p; way = w }) else first_of sought (drop (suc k) rows) (drop (suc k) ways))
+    ≡ (if is_sought sought p then Some (record { row = p; way = w }) else first_of sought
+    (drop (suc k) rows) (drop (suc k) ways))
 first_here sought k rows ways p w row way = λ i. first_of sought (drop-here rows k p row i) (drop-here ways k w way i)
 
 -- fewer instructions than are asked for are not as many
-pub too_few : (sought : Sought) (rows : List Passage) (places : ℕ) → length rows < places → (count_by (is_sought sought) rows == places) ≡ false
+pub too_few : (sought : Sought) (rows : List Passage) (places : ℕ) → length rows < places →
+    (count_by (is_sought sought) rows == places) ≡ false
 too_few sought rows places few = grind (arith, nat_tests, count_by-le-length (is_sought sought) rows, few)

@@ -28,15 +28,18 @@ among-before None points = tt
 among-before (Some point) points = has-last point points
 
 -- one that is another is kept
-has-kept : (here : Bool) (point x : Point) (rest : List Point) → HasPoint point rest → HasPoint point (if not here then x ∷ rest else rest)
+has-kept : (here : Bool) (point x : Point) (rest : List Point) → HasPoint point rest →
+    HasPoint point (if not here then x ∷ rest else rest)
 has-kept true point x rest has = has
 has-kept false point x rest has = inr has
 
-has-others : (event : Event) (point : Point) (points : List Point) → is_point event.at point ≡ false → HasPoint point points
+has-others : (event : Event) (point : Point) (points : List Point) → is_point event.at point ≡ false →
+    HasPoint point points
     → HasPoint point (others event points)
 has-others event point [] other has = absurd has
 has-others event point (x ∷ xs) other (inl is) = rw (ap (is_point event.at) is ∙ other) (inl is)
-has-others event point (x ∷ xs) other (inr later) = has-kept (is_point event.at x) point x (others event xs) (has-others event point xs other later)
+has-others event point (x ∷ xs) other (inr later) = has-kept (is_point event.at x) point x (others event xs)
+    (has-others event point xs other later)
 
 -- one that is the event's is found
 or-true : (here found : Bool) → found ≡ true → (here || found) ≡ true
@@ -47,18 +50,22 @@ any-has : (event : Event) (point : Point) (points : List Point) → is_point eve
     → list_any (is_point event.at) points ≡ true
 any-has event point [] same has = absurd has
 any-has event point (x ∷ xs) same (inl is) = rw (ap (is_point event.at) is ∙ same) refl
-any-has event point (x ∷ xs) same (inr later) = or-true (is_point event.at x) (list_any (is_point event.at) xs) (any-has event point xs same later)
+any-has event point (x ∷ xs) same (inr later) = or-true (is_point event.at x) (list_any (is_point event.at) xs)
+    (any-has event point xs same later)
 
 -- What a walk among them wants past the event is among them then.
-by_found : (found : Bool) (event : Event) (point : Point) (points : List Point) → is_point event.at point ≡ false → HasPoint point points
+by_found : (found : Bool) (event : Event) (point : Point) (points : List Point) → is_point event.at point ≡ false →
+    HasPoint point points
     → HasPoint point (if found then with_before event.before (others event points) else points)
 by_found true event point points other has =
     has-left point (others event points) (option_to_list event.before) (has-others event point points other has)
 by_found false event point points other has = has
 
-by_test : (here : Bool) (event : Event) (point : Point) (points : List Point) → is_point event.at point ≡ here → HasPoint point points
+by_test : (here : Bool) (event : Event) (point : Point) (points : List Point) → is_point event.at point ≡ here →
+    HasPoint point points
     → IsAmong (if here then event.before else Some point) (passed event points)
-by_test true event point points same has = rw (any-has event point points same has) (among-before event.before (others event points))
+by_test true event point points same has =
+    rw (any-has event point points same has) (among-before event.before (others event points))
 by_test false event point points other has = by_found (list_any (is_point event.at) points) event point points other has
 
 -- past an event, what was among the points wanted is among those that are left
@@ -67,7 +74,8 @@ pub passed-covers : (event : Event) (wanted : Option Point) (points : List Point
 passed-covers event None points among = tt
 passed-covers event (Some point) points among = by_test (is_point event.at point) event point points refl among
 
-all-both : (root : Option Point) (older : List Event) (xs ys : List Point) → AllComeTo root older xs → AllComeTo root older ys
+all-both : (root : Option Point) (older : List Event) (xs ys : List Point) → AllComeTo root older xs →
+    AllComeTo root older ys
     → AllComeTo root older (xs ++ ys)
 all-both root older [] ys front back = back
 all-both root older (x ∷ xs) ys front back = (front.0, all-both root older xs ys front.1 back)
@@ -79,7 +87,8 @@ others-by : (here : Bool) (root : Option Point) (older : List Event) (event : Ev
 others-by true root older event x rest comes come = come
 others-by false root older event x rest comes come = (comes, come)
 
-others-come : (root : Option Point) (older : List Event) (event : Event) (points : List Point) → AllComeTo root (event ∷ older) points
+others-come : (root : Option Point) (older : List Event) (event : Event) (points : List Point) →
+    AllComeTo root (event ∷ older) points
     → AllComeTo root older (others event points)
 others-come root older event [] come = tt
 others-come root older event (x ∷ xs) come =
@@ -92,7 +101,8 @@ before-by : (here found : Bool) (root : Option Point) (older : List Event) (even
 before-by true found root older event x comes is rest = comes
 before-by false found root older event x comes is rest = rest is
 
-before-comes : (root : Option Point) (older : List Event) (event : Event) (points : List Point) → list_any (is_point event.at) points ≡ true
+before-comes : (root : Option Point) (older : List Event) (event : Event) (points : List Point) →
+    list_any (is_point event.at) points ≡ true
     → AllComeTo root (event ∷ older) points → ComesTo root older event.before
 before-comes root older event [] found come = absurd cc
 before-comes root older event (x ∷ xs) found come =
@@ -110,11 +120,13 @@ none-by : (here found : Bool) (root : Option Point) (older : List Event) (event 
 none-by true found root older event x xs comes is rest = absurd cc
 none-by false found root older event x xs comes is rest = (comes, rest is)
 
-none-come : (root : Option Point) (older : List Event) (event : Event) (points : List Point) → list_any (is_point event.at) points ≡ false
+none-come : (root : Option Point) (older : List Event) (event : Event) (points : List Point) →
+    list_any (is_point event.at) points ≡ false
     → AllComeTo root (event ∷ older) points → AllComeTo root older points
 none-come root older event [] none come = tt
 none-come root older event (x ∷ xs) none come =
-    none-by (is_point event.at x) (list_any (is_point event.at) xs) root older event x xs come.0 none (λ is. none-come root older event xs is come.1)
+    none-by (is_point event.at x) (list_any (is_point event.at) xs) root older event x xs come.0 none
+    (λ is. none-come root older event xs is come.1)
 
 -- Where walks come to a root through the event, they come to it past the event.
 come-by : (found : Bool) (root : Option Point) (older : List Event) (event : Event) (points : List Point)
@@ -126,9 +138,11 @@ come-by true root older event points is come =
 come-by false root older event points is come = none-come root older event points is come
 
 -- past an event, the points that are left come to the root through the older events
-pub passed-come : (root : Option Point) (older : List Event) (event : Event) (points : List Point) → AllComeTo root (event ∷ older) points
+pub passed-come : (root : Option Point) (older : List Event) (event : Event) (points : List Point) →
+    AllComeTo root (event ∷ older) points
     → AllComeTo root older (passed event points)
-passed-come root older event points come = come-by (list_any (is_point event.at) points) root older event points refl come
+passed-come root older event points come = come-by (list_any (is_point event.at) points) root older
+    event points refl come
 
 -- Where one is dropped there is room for another.
 fewer-by : (here : Bool) (x : Point) (xs rest : List Point) → length rest < length xs + 1
@@ -140,14 +154,17 @@ no_more : (event : Event) (points : List Point) → length (others event points)
 no_more event [] = omega arith
 no_more event (x ∷ xs) = fewer-by (is_point event.at x) x xs (others event xs) (no_more event xs)
 
-fewer-where : (here found : Bool) (x : Point) (xs rest : List Point) → (here || found) ≡ true → length rest < length xs + 1
+fewer-where : (here found : Bool) (x : Point) (xs rest : List Point) → (here || found) ≡ true →
+    length rest < length xs + 1
     → (found ≡ true → length rest < length xs)
     → length (if not here then x ∷ rest else rest) < length (x ∷ xs)
 fewer-where true found x xs rest is few fewer = omega (arith, few)
 fewer-where false found x xs rest is few fewer = omega (arith, fewer is)
 
 -- where a point is that of an event, fewer points are of other events
-pub fewer : (event : Event) (points : List Point) → list_any (is_point event.at) points ≡ true → length (others event points) < length points
+pub fewer : (event : Event) (points : List Point) → list_any (is_point event.at) points ≡ true →
+    length (others event points) < length points
 fewer event [] found = absurd cc
 fewer event (x ∷ xs) found =
-    fewer-where (is_point event.at x) (list_any (is_point event.at) xs) x xs (others event xs) found (no_more event xs) (λ is. fewer event xs is)
+    fewer-where (is_point event.at x) (list_any (is_point event.at) xs) x xs (others event xs) found (no_more event xs)
+    (λ is. fewer event xs is)

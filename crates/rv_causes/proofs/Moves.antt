@@ -15,13 +15,15 @@ use Rattle.rv_causes.specs.declared.{cause.Cause.Cause, leaving.Leaving.Leaving,
 use Rattle.rv_causes.specs.declared.point.Stage.TheVariants as stage
 
 new-by : (refilled : Bool) (at : Point) (cycle : ℕ) (address : Option ℕ) (waited : Wait) (why : Option Cause)
-    → event_if (is_some why) (event_by refilled at cycle address waited why) ≡ new_by refilled at cycle address waited why
+    → event_if (is_some why) (event_by refilled at cycle address waited why)
+    ≡ new_by refilled at cycle address waited why
 new-by refilled at cycle address waited None = refl
 new-by refilled at cycle address waited (Some why) = refl
 
 -- an event is new where it has a cause
 pub new_if : (refilled : Bool) (at : Point) (cycle : ℕ) (address : Option ℕ) (waited : Wait)
-    → event_if (is_some waited.cause) (event_from refilled at cycle address waited) ≡ new_from refilled at cycle address waited
+    → event_if (is_some waited.cause) (event_from refilled at cycle address waited)
+    ≡ new_from refilled at cycle address waited
 new_if refilled at cycle address waited = new-by refilled at cycle address waited waited.cause
 
 none-by : (dispatched issued broadcast : Bool) (x y z : Move) → (dispatched || (issued || broadcast)) ≡ false
@@ -31,7 +33,8 @@ none-by false true broadcast x y z idle = absurd cc
 none-by false false true x y z idle = absurd cc
 none-by false false false x y z idle = refl
 
-idle-none : (s : Setting) (leaving : Leaving) (place : ℕ) (ways : List Way) (p : Passage) (w : Way) → advances s.number p ≡ false
+idle-none : (s : Setting) (leaving : Leaving) (place : ℕ) (ways : List Way) (p : Passage) (w : Way) →
+    advances s.number p ≡ false
     → advance_of s leaving ways place p w ≡ None
 idle-none s leaving place ways p w idle =
     none-by (is_at s.number p.dispatched) (is_at s.number (issued_in p)) (is_at s.number p.broadcast)
@@ -44,7 +47,8 @@ moved-idle : (s : Setting) (leaving : Leaving) (place : ℕ) (ways : List Way) (
 moved-idle s leaving place ways None way idle = refl
 moved-idle s leaving place ways (Some p) None idle = refl
 moved-idle s leaving place ways (Some p) (Some w) idle =
-    ap (λ (o : Option Move). advanced s place (record { row = p; way = w }) o ways) (idle-none s leaving place ways p w idle)
+    ap (λ (o : Option Move). advanced s place (record { row = p; way = w }) o ways)
+    (idle-none s leaving place ways p w idle)
 
 new-idle : (s : Setting) (leaving : Leaving) (place : ℕ) (ways : List Way) (row : Option Passage) (way : Option Way)
     → advances_by s.number row ≡ false → new_at_one s leaving place (journey_of row way) ways ≡ []
@@ -55,7 +59,8 @@ new-idle s leaving place ways (Some p) (Some w) idle = ap (new_advanced s p) (id
 -- one of which nothing comes keeps its events
 pub idle_moved : (s : Setting) (leaving : Leaving) (place : ℕ) (ways : List Way) → advances_at s place ≡ false
     → moved_at s leaving place ways ≡ ways
-idle_moved s leaving place ways idle = moved-idle s leaving place ways (slice_get s.rows place) (slice_get ways place) idle
+idle_moved s leaving place ways idle = moved-idle s leaving place ways (slice_get s.rows place)
+    (slice_get ways place) idle
 
 -- and nothing is new
 pub idle_new : (s : Setting) (leaving : Leaving) (place : ℕ) (ways : List Way) → advances_at s place ≡ false
@@ -78,16 +83,20 @@ pub way_at : (place : ℕ) (rows : List Passage) (ways : List Way) (j : Journey)
 way_at place rows ways j found w =
     get_or_from_slice_get ways place j.way w (way-of (slice_get rows place) (slice_get ways place) j found)
 
-module _ (s : Setting) (leaving : Leaving) (place : ℕ) (ways : List Way) (j : Journey) (found : Some j ≡ one_at place s.rows ways)
+module _ (s : Setting) (leaving : Leaving) (place : ℕ) (ways : List Way) (j : Journey) (found : Some j
+    ≡ one_at place s.rows ways)
     (p : Passage) (w : Way) (row : p ≡ j.row) (way : w ≡ j.way) where
   comes : (o : Option Move) → o ≡ advance_of s leaving ways place p w → o ≡ advance_of s leaving ways place j.row j.way
   comes o is = is ∙ (λ i. advance_of s leaving ways place (row i) (way i))
 
   -- what comes of it
-  pub moved_here : (o : Option Move) → o ≡ advance_of s leaving ways place p w → moved_at s leaving place ways ≡ advanced s place j o ways
+  pub moved_here : (o : Option Move) → o ≡ advance_of s leaving ways place p w → moved_at s leaving place ways
+      ≡ advanced s place j o ways
   moved_here o is =
-      (λ i. moved_by s leaving place (sym found i) ways) ∙ ap (λ (o : Option Move). advanced s place j o ways) (sym (comes o is))
+      (λ i. moved_by s leaving place (sym found i) ways)
+      ∙ ap (λ (o : Option Move). advanced s place j o ways) (sym (comes o is))
 
   -- what is new at a place is what its instruction's advance brings
-  pub new_here : (o : Option Move) → o ≡ advance_of s leaving ways place p w → new_at s leaving place ways ≡ new_advanced s j.row o
+  pub new_here : (o : Option Move) → o ≡ advance_of s leaving ways place p w → new_at s leaving place ways
+      ≡ new_advanced s j.row o
   new_here o is = (λ i. new_at_one s leaving place (sym found i) ways) ∙ ap (new_advanced s j.row) (sym (comes o is))

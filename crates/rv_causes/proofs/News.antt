@@ -20,7 +20,8 @@ pub record IsNew (P : Event → Type 0) (cycles : ℕ) (event : Event) : Type 0 
 -- before; and of all others still.
 pub record IsKept (cycles : ℕ) (P : List Event → Event → Type 0) : Type 0 where
   pub newest : (all : List Event) (event : Event) → IsNew (P all) cycles event → P (event ∷ all) event
-  pub others : (all : List Event) (event other : Event) → IsNew (P all) cycles event → P all other → P (event ∷ all) other
+  pub others : (all : List Event) (event other : Event) → IsNew (P all) cycles event → P all other →
+      P (event ∷ all) other
 
 -- of several events
 abbrev pub AllOf : (Event → Type 0) → List Event → Type 0
@@ -53,12 +54,14 @@ some_all P None are = tt
 some_all P (Some event) are = are.0
 
 -- what implies another property of an event implies it of all of a list
-pub all_imply : (P Q : Event → Type 0) → ((event : Event) → P event → Q event) → (es : List Event) → AllOf P es → AllOf Q es
+pub all_imply : (P Q : Event → Type 0) → ((event : Event) → P event → Q event) → (es : List Event) → AllOf P es →
+    AllOf Q es
 all_imply P Q implies [] are = tt
 all_imply P Q implies (e ∷ es) are = (implies e are.0, all_imply P Q implies es are.1)
 
 -- and of a new one
-pub new_implies : (P Q : Event → Type 0) (cycles : ℕ) → ((event : Event) → P event → Q event) → (event : Event) → IsNew P cycles event
+pub new_implies : (P Q : Event → Type 0) (cycles : ℕ) → ((event : Event) → P event → Q event) → (event : Event) →
+    IsNew P cycles event
     → IsNew Q cycles event
 new_implies P Q cycles implies event is =
     record { of = is.of; has = implies is.of is.has; cycle = is.cycle; before = is.before; so = is.so }
@@ -70,7 +73,8 @@ with_both (e ∷ es) fs all = with_both es fs (e ∷ all)
 
 -- where a cause is not so of two events, another one is named, which says nothing of them
 named_if : (is : Bool) (why : Cause) (waited : Point) (first : ℕ) (waits : Point) (second : ℕ)
-    → is_so (claim_of why) waited first waits second ≡ is → is_so (claim_of (cause_if is why)) waited first waits second ≡ true
+    → is_so (claim_of why) waited first waits second ≡ is →
+    is_so (claim_of (cause_if is why)) waited first waits second ≡ true
 named_if true why waited first waits second is = is
 named_if false why waited first waits second is = refl
 
@@ -82,7 +86,8 @@ named_so event at cycle reason =
     event.cycle at cycle refl
 
 -- an event that was made by a wait is new
-pub made_new : (P : Event → Type 0) (refilled : Bool) (cycles : ℕ) (at : Point) (address : Option ℕ) (why : Cause) (waited : Wait)
+pub made_new : (P : Event → Type 0) (refilled : Bool) (cycles : ℕ) (at : Point) (address : Option ℕ)
+    (why : Cause) (waited : Wait)
     → P waited.event → IsNew P cycles (event_after refilled at cycles address why waited)
 made_new P refilled cycles at address why waited is = record {
   of = waited.event;
@@ -98,15 +103,23 @@ module _ (cycles : ℕ) (P : List Event → Event → Type 0) (kept : IsKept cyc
   new_still : (all : List Event) (event other : Event) → IsNew (P all) cycles event → IsNew (P all) cycles other
       → IsNew (P (event ∷ all)) cycles other
   new_still all event other new is =
-      record { of = is.of; has = kept.others all event is.of new is.has; cycle = is.cycle; before = is.before; so = is.so }
+      record {
+        of = is.of;
+        has = kept.others all event is.of new is.has;
+        cycle = is.cycle;
+        before = is.before;
+        so = is.so;
+      }
 
-  all_still : (all : List Event) (event : Event) (es : List Event) → IsNew (P all) cycles event → AllOf (IsNew (P all) cycles) es
+  all_still : (all : List Event) (event : Event) (es : List Event) → IsNew (P all) cycles event →
+      AllOf (IsNew (P all) cycles) es
       → AllOf (IsNew (P (event ∷ all)) cycles) es
   all_still all event [] new are = tt
   all_still all event (e ∷ es) new are = (new_still all event e new are.0, all_still all event es new are.1)
 
   -- what held of one that was known still does
-  pub known_still : (all es : List Event) → AllOf (IsNew (P all) cycles) es → (event : Event) → P all event → P (with_events es all) event
+  pub known_still : (all es : List Event) → AllOf (IsNew (P all) cycles) es → (event : Event) → P all event →
+      P (with_events es all) event
   known_still all [] are event is = is
   known_still all (e ∷ es) are event is =
       known_still (e ∷ all) es (all_still all e es are.0 are.1) event (kept.others all e event are.0 is)
@@ -119,24 +132,29 @@ module _ (cycles : ℕ) (P : List Event → Event → Type 0) (kept : IsKept cyc
       (known_still (e ∷ all) es rest e (kept.newest all e are.0), all_new_have (e ∷ all) es rest)
 
   -- of one that waited for a known one, or is that one again
-  by_have : (all : List Event) (refilled : Bool) (at : Point) (address : Option ℕ) (waited : Wait) (why : Option Cause) → P all waited.event
-      → P (with_events (new_by refilled at cycles address waited why) all) (event_by refilled at cycles address waited why)
+  by_have : (all : List Event) (refilled : Bool) (at : Point) (address : Option ℕ) (waited : Wait)
+      (why : Option Cause) → P all waited.event
+      → P (with_events (new_by refilled at cycles address waited why) all)
+      (event_by refilled at cycles address waited why)
   by_have all refilled at address waited None is = is
   by_have all refilled at address waited (Some why) is =
       kept.newest all _ (made_new (P all) refilled cycles at address why waited is)
 
-  by_still : (all : List Event) (refilled : Bool) (at : Point) (address : Option ℕ) (waited : Wait) (why : Option Cause) → P all waited.event
+  by_still : (all : List Event) (refilled : Bool) (at : Point) (address : Option ℕ) (waited : Wait)
+      (why : Option Cause) → P all waited.event
       → (other : Event) → P all other → P (with_events (new_by refilled at cycles address waited why) all) other
   by_still all refilled at address waited None is other held = held
   by_still all refilled at address waited (Some why) is other held =
       kept.others all _ other (made_new (P all) refilled cycles at address why waited is) held
 
   -- a property of all events so far and one holds of a new event after the one that it waited for
-  pub wait_has : (all : List Event) (refilled : Bool) (at : Point) (address : Option ℕ) (waited : Wait) → P all waited.event
+  pub wait_has : (all : List Event) (refilled : Bool) (at : Point) (address : Option ℕ) (waited : Wait) →
+      P all waited.event
       → P (with_events (new_from refilled at cycles address waited) all) (event_from refilled at cycles address waited)
   wait_has all refilled at address waited is = by_have all refilled at address waited waited.cause is
 
   -- and still holds of each other one, with the new event
-  pub wait_still : (all : List Event) (refilled : Bool) (at : Point) (address : Option ℕ) (waited : Wait) → P all waited.event
+  pub wait_still : (all : List Event) (refilled : Bool) (at : Point) (address : Option ℕ) (waited : Wait) →
+      P all waited.event
       → (other : Event) → P all other → P (with_events (new_from refilled at cycles address waited) all) other
   wait_still all refilled at address waited is = by_still all refilled at address waited waited.cause is

@@ -33,7 +33,8 @@ none-by true held some is none = none is
 none-by false held some is none = refl
 
 no-hold : (number : ℕ) (values : Values) (p : Passage) (w : Way) (o : Option Issue)
-    → (is_at number (option_map (λ (issue : Issue). issue.cycle) o) && is_held values (kind_of_word p.instruction)) ≡ false
+    → (is_at number (option_map (λ (issue : Issue). issue.cycle) o) && is_held values (kind_of_word p.instruction))
+    ≡ false
     → hold_of number values p w o ≡ []
 unfolding hold_of
 no-hold number values p w None is = refl

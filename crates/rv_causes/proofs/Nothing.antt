@@ -10,12 +10,14 @@ use Rattle.rv_causes.specs.Setting.{Setting}
 use Rattle.rv_causes.specs.declared.{leaving.Leaving.Leaving, sought.Sought.Sought, way.Way.Way}
 
 -- of no ways the first that is sought is none
-pub first_of_nothing : (sought : Sought) (rows : List Passage) (ways : List Way) → length ways < 1 → first_of sought rows ways ≡ None
+pub first_of_nothing : (sought : Sought) (rows : List Passage) (ways : List Way) → length ways < 1 →
+    first_of sought rows ways ≡ None
 first_of_nothing sought [] ways none = refl
 first_of_nothing sought (p ∷ ps) [] none = refl
 first_of_nothing sought (p ∷ ps) (w ∷ ws) none = absurd (omega (arith, none))
 
-pub last_of_nothing : (sought : Sought) (rows : List Passage) (ways : List Way) → length ways < 1 → last_of sought rows ways ≡ None
+pub last_of_nothing : (sought : Sought) (rows : List Passage) (ways : List Way) → length ways < 1 →
+    last_of sought rows ways ≡ None
 last_of_nothing sought [] ways none = refl
 last_of_nothing sought (p ∷ ps) [] none = refl
 last_of_nothing sought (p ∷ ps) (w ∷ ws) none = absurd (omega (arith, none))

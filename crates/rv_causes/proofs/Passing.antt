@@ -22,12 +22,14 @@ Leads root all event = ComesTo root all (Some event.at)
 is_point-same : (p : Point) → is_point p p ≡ true
 is_point-same p = λ i. eq-eqb (stage_place p.stage) (stage_place p.stage) refl i && eq-eqb p.number p.number refl i
 
-come-found : (root : Option Point) (all : List Event) (event : Event) (here : Bool) → here ≡ true → ComesTo root all event.before
+come-found : (root : Option Point) (all : List Event) (event : Event) (here : Bool) → here ≡ true →
+    ComesTo root all event.before
     → ComesTo root all (if here then event.before else Some event.at)
 come-found root all event true found before = before
 come-found root all event false found before = absurd (cc (found))
 
-before-leads : (root : Option Point) (cycles : ℕ) (all : List Event) (event : Event) → IsNew (Leads root all) cycles event
+before-leads : (root : Option Point) (cycles : ℕ) (all : List Event) (event : Event) →
+    IsNew (Leads root all) cycles event
     → ComesTo root all event.before
 before-leads root cycles all event new = subst (ComesTo root all) (sym new.before) new.has
 
@@ -35,8 +37,10 @@ before-leads root cycles all event new = subst (ComesTo root all) (sym new.befor
 pub leads_kept : (cycles : ℕ) (root : Option Point) → IsKept cycles (Leads root)
 leads_kept cycles root = record {
   newest = λ all event new.
-      come-found root all event (is_point event.at event.at) (is_point-same event.at) (before-leads root cycles all event new);
-  others = λ all event other new is. come-push root all event (Some other.at) (before-leads root cycles all event new) is;
+      come-found root all event (is_point event.at event.at) (is_point-same event.at)
+      (before-leads root cycles all event new);
+  others = λ all event other new is. come-push root all event (Some other.at)
+      (before-leads root cycles all event new) is;
 }
 
 -- some events before others, which come the other way round
@@ -47,20 +51,24 @@ with-reverse (event ∷ made) events =
     ∙ ap (λ (es : List Event). es ++ events) (sym (reverse-append (event ∷ []) made))
 
 -- the events that a window keeps, with new ones, are those that the window after them keeps
-pub kept-followed : (made : List Event) (old new : Window) → IsFollowed made old new → with_events made (kept_events old) ≡ kept_events new
+pub kept-followed : (made : List Event) (old new : Window) → IsFollowed made old new →
+    with_events made (kept_events old) ≡ kept_events new
 kept-followed made old new followed =
     with-reverse made (kept_events old) ∙ sym (reverse-append old.events.items made) ∙ ap reverse (sym followed.0)
 
 -- a window after new events stands for all events with these
-pub window_followed : (made : List Event) (old new : Window) (all : List Event) → IsFollowed made old new → IsWindow old all
+pub window_followed : (made : List Event) (old new : Window) (all : List Event) → IsFollowed made old new →
+    IsWindow old all
     → IsWindow new (with_events made all)
 window_followed made old new all followed is = record {
   older = is.older;
   all_are =
       with-reverse made all ∙ ap (λ (es : List Event). reverse made ++ es) is.all_are
       ∙ sym (append_assoc (reverse made) (kept_events old) is.older)
-      ∙ ap (λ (es : List Event). es ++ is.older) (sym (with-reverse made (kept_events old)) ∙ kept-followed made old new followed);
-  account_is = ap accounted followed.2 ∙ is.account_is ∙ ap (λ (r : Option Point). account_of (path_to is.older r)) (sym followed.1);
+      ∙ ap (λ (es : List Event). es ++ is.older) (sym (with-reverse made (kept_events old))
+      ∙ kept-followed made old new followed);
+  account_is = ap accounted followed.2 ∙ is.account_is
+      ∙ ap (λ (r : Option Point). account_of (path_to is.older r)) (sym followed.1);
 }
 
 -- an event that leads to the root of the old window is one that the new window can be left by

@@ -21,10 +21,12 @@ and-false false = refl
 -- one that comes before a window
 unmarked_before : (from : ℕ) (event : Event) → event.cycle < from → is_marked from event ≡ false
 unmarked_before from event before =
-    ap (λ b. is_of_instruction event.at.stage && b) (lt-leb from event.cycle before) ∙ and-false (is_of_instruction event.at.stage)
+    ap (λ b. is_of_instruction event.at.stage && b) (lt-leb from event.cycle before)
+    ∙ and-false (is_of_instruction event.at.stage)
 
 -- all of a run of fewer cycles
-pub unmarked_in_time : (cycles from : ℕ) (events : List Event) → cycles < from → AreInTime cycles events → AreUnmarked from events
+pub unmarked_in_time : (cycles from : ℕ) (events : List Event) → cycles < from → AreInTime cycles events →
+    AreUnmarked from events
 unmarked_in_time cycles from [] less within = tt
 unmarked_in_time cycles from (event ∷ older) less within =
     let here : event.cycle < from = omega (arith, less, within.0) in
@@ -38,13 +40,15 @@ unmarked-back : (from : ℕ) (xs ys : List Event) → AreUnmarked from (xs ++ ys
 unmarked-back from [] ys are = are
 unmarked-back from (x ∷ xs) ys are = unmarked-back from xs ys are.1
 
-unmarked-by : (from : ℕ) (event : Event) (here : Bool) (found past_it : List Event) → is_marked from event ≡ false → AreUnmarked from found
+unmarked-by : (from : ℕ) (event : Event) (here : Bool) (found past_it : List Event) → is_marked from event ≡ false →
+    AreUnmarked from found
     → AreUnmarked from past_it → AreUnmarked from (if here then event ∷ found else past_it)
 unmarked-by from event true found past_it unmarked in_it later = (unmarked, in_it)
 unmarked-by from event false found past_it unmarked in_it later = later
 
 -- a path of such
-unmarked-path : (from : ℕ) (events : List Event) (wanted : Option Point) → AreUnmarked from events → AreUnmarked from (path_to events wanted)
+unmarked-path : (from : ℕ) (events : List Event) (wanted : Option Point) → AreUnmarked from events →
+    AreUnmarked from (path_to events wanted)
 unmarked-path from [] wanted are = tt
 unmarked-path from (event ∷ older) wanted are =
     unmarked-by from event (is_wanted wanted event) (path_to older event.before) (path_to older wanted) are.0
@@ -53,7 +57,8 @@ unmarked-path from (event ∷ older) wanted are =
 none-marked : (from : ℕ) (events : List Event) → AreUnmarked from events → filter (is_marked from) events ≡ []
 none-marked from [] are = refl
 none-marked from (event ∷ events) are =
-    ap (λ b. if b then event ∷ filter (is_marked from) events else filter (is_marked from) events) are.0 ∙ none-marked from events are.1
+    ap (λ b. if b then event ∷ filter (is_marked from) events else filter (is_marked from) events) are.0
+    ∙ none-marked from events are.1
 
 -- those of a path that are marked lie in its part in a window
 pub marked-kept : (from : ℕ) (window : Window) (all : List Event) (wanted : Option Point) → HasAllMarked from window all
@@ -70,7 +75,8 @@ marked-kept from window all wanted has =
     ∙ append-nil (filter (is_marked from) (path_to kept wanted)))
 
 -- a window on events that are all unmarked has all that are marked
-pub has_all_of : (from : ℕ) (window : Window) (all : List Event) → IsWindow window all → AreUnmarked from all → HasAllMarked from window all
+pub has_all_of : (from : ℕ) (window : Window) (all : List Event) → IsWindow window all → AreUnmarked from all →
+    HasAllMarked from window all
 has_all_of from window all is unmarked = record {
   older = is.older;
   all_are = is.all_are;
@@ -78,7 +84,8 @@ has_all_of from window all is unmarked = record {
 }
 
 -- one with the same events, and one with some more
-pub has_all_same : (from : ℕ) (old new : Window) (all : List Event) → new.events.items ≡ old.events.items → HasAllMarked from old all
+pub has_all_same : (from : ℕ) (old new : Window) (all : List Event) → new.events.items ≡ old.events.items →
+    HasAllMarked from old all
     → HasAllMarked from new all
 has_all_same from old new all same has = record {
   older = has.older;
@@ -87,13 +94,15 @@ has_all_same from old new all same has = record {
 }
 
 -- a window that has all marked events of a path has them after new events too
-pub has_all_followed : (from : ℕ) (made : List Event) (old new : Window) (all : List Event) → IsFollowed made old new → HasAllMarked from old all
+pub has_all_followed : (from : ℕ) (made : List Event) (old new : Window) (all : List Event) → IsFollowed made old new →
+    HasAllMarked from old all
     → HasAllMarked from new (with_events made all)
 has_all_followed from made old new all followed has = record {
   older = has.older;
   all_are =
       with-reverse made all ∙ ap (λ (es : List Event). reverse made ++ es) has.all_are
       ∙ sym (append_assoc (reverse made) (kept_events old) has.older)
-      ∙ ap (λ (es : List Event). es ++ has.older) (sym (with-reverse made (kept_events old)) ∙ kept-followed made old new followed);
+      ∙ ap (λ (es : List Event). es ++ has.older) (sym (with-reverse made (kept_events old))
+      ∙ kept-followed made old new followed);
   unmarked = has.unmarked;
 }

@@ -43,7 +43,8 @@ pub broadcast_have : (P : Event → Type 0) (w : Way) → IsWayOf P w → P (bro
 broadcast_have P w is = unwrap_with P w.broadcast (issued_by w) is.broadcast (issued_have P w is)
 
 -- of a cycle, where something holds of all that is known when it begins
-module _ (s : Setting) (P : Event → Type 0) (V : Wait → Type 0) (waits_V : (why : Cause) (event : Event) → P event → V (waits why event))
+module _ (s : Setting) (P : Event → Type 0) (V : Wait → Type 0) (waits_V : (why : Cause) (event : Event) → P event →
+    V (waits why event))
     (holds : AreHoldsOf P s.holds) (before : IsBeforeOf P s.before) where
   abbrev O : Option Wait → Type 0
   O waited = IfSome waited V
@@ -114,7 +115,8 @@ module _ (s : Setting) (P : Event → Type 0) (V : Wait → Type 0) (waits_V : (
   own_lines_V (Some hold) is = waits_V _ hold.event is
 
   after_left_V : (left : Left) → P left.event → V (after_left s left)
-  after_left_V left is = if_with V (left.count == s.values.commit_width) (waits_V _ left.event is) (waits_V _ left.event is)
+  after_left_V left is = if_with V (left.count == s.values.commit_width) (waits_V _ left.event is)
+      (waits_V _ left.event is)
 
   after_left_before_V : (o : Option Left) → OL o → O (after_left_before s o)
   after_left_before_V None is = tt
@@ -125,7 +127,8 @@ module _ (s : Setting) (P : Event → Type 0) (V : Wait → Type 0) (waits_V : (
   first_to_leave_V p =
       if_with O (is_fence_i p.instruction)
       (or_with V (after_own_lines s p) (after_stores s)
-      (if_with O (is_hold_of holder.Lines p.number (port_ended s)) (own_lines_V (port_ended s) port_ended_V) tt) after_stores_V)
+      (if_with O (is_hold_of holder.Lines p.number (port_ended s)) (own_lines_V (port_ended s) port_ended_V) tt)
+      after_stores_V)
       (after_left_before_V (left_before s) left_before_V)
 
   left_since_V : (why : Cause) (o : Option Left) → P (last_left o) → V (since_left why o)
@@ -152,12 +155,14 @@ module _ (s : Setting) (P : Event → Type 0) (V : Wait → Type 0) (waits_V : (
     after_producer_V None = tt
     after_producer_V (Some producer) =
         let what = sought.Number producer.number in
-        if_with O (is_just_before s.number producer.broadcast) (after_broadcast_V cause.Operand (first_of what s.rows ws) (first_J what)) tt
+        if_with O (is_just_before s.number producer.broadcast)
+        (after_broadcast_V cause.Operand (first_of what s.rows ws) (first_J what)) tt
 
     after_older_store_V : (p : Passage) (o : Option Journey) → OJ P o → O (after_older_store s p o)
     after_older_store_V p None is = tt
     after_older_store_V p (Some store) is =
-        if_with O (nat_lt store.row.number p.number) (waits_V _ (broadcast_by store.way) (broadcast_have P store.way is)) tt
+        if_with O (nat_lt store.row.number p.number)
+        (waits_V _ (broadcast_by store.way) (broadcast_have P store.way is)) tt
 
     after_stores_known_V : (p : Passage) → O (after_stores_known s ws p)
     after_stores_known_V p =
@@ -171,7 +176,8 @@ module _ (s : Setting) (P : Event → Type 0) (V : Wait → Type 0) (waits_V : (
     hold_among_V : (kind : Kind) (hs : List UnitHold) → AreHoldsOf P hs → OU (hold_among s kind hs)
     hold_among_V kind [] are = tt
     hold_among_V kind (h ∷ hs) are =
-        if_with OU (has_ended s kind h) (older_hold_V h (hold_among s kind hs) are.0 (hold_among_V kind hs are.1)) (hold_among_V kind hs are.1)
+        if_with OU (has_ended s kind h) (older_hold_V h (hold_among s kind hs) are.0 (hold_among_V kind hs are.1))
+        (hold_among_V kind hs are.1)
 
     after_hold_of_V : (kind : Kind) (o : Option UnitHold) → OU o → O (after_hold_of kind o)
     after_hold_of_V kind None is = tt
@@ -198,9 +204,11 @@ module _ (s : Setting) (P : Event → Type 0) (V : Wait → Type 0) (waits_V : (
         let kind = kind_of_word p.instruction in
         let first = after_producer s ws p.producers.first in
         let second = after_producer s ws p.producers.second in
-        or_with V (after_operands s ws p) (option_or (after_stores_known s ws p) (option_or (after_units_of s ws kind) (after_port s)))
+        or_with V (after_operands s ws p)
+        (option_or (after_stores_known s ws p) (option_or (after_units_of s ws kind) (after_port s)))
         (or_with V first second (after_producer_V p.producers.first) (after_producer_V p.producers.second))
-        (or_with V (after_stores_known s ws p) (option_or (after_units_of s ws kind) (after_port s)) (after_stores_known_V p)
+        (or_with V (after_stores_known s ws p) (option_or (after_units_of s ws kind) (after_port s))
+        (after_stores_known_V p)
         (or_with V (after_units_of s ws kind) (after_port s) (after_units_of_V kind) after_port_V))
 
     -- it holds of what an issue waits for
@@ -208,7 +216,8 @@ module _ (s : Setting) (P : Event → Type 0) (V : Wait → Type 0) (waits_V : (
     issue_wait_V p w is =
         let event = dispatched_have P w is in
         if_with V (is_just_before s.number p.dispatched) (waits_V _ (dispatched_by w) event)
-        (unwrap_with V (issue_after s ws p) (waits cause.Other (dispatched_by w)) (issue_after_V p) (waits_V _ (dispatched_by w) event))
+        (unwrap_with V (issue_after s ws p) (waits cause.Other (dispatched_by w)) (issue_after_V p)
+        (waits_V _ (dispatched_by w) event))
 
     after_bus_V : O (after_bus s ws)
     after_bus_V =

@@ -5,7 +5,8 @@ use Rattle.rv_causes.specs.Walk.{AreInTime, beyond, is_wanted, past, path_to}
 use Rattle.rv_causes.specs.declared.{point.Point.Point, event.Event.Event}
 
 -- a walk past two parts of the events goes past the one and then past the other
-pub beyond-append : (xs ys : List Event) (wanted : Option Point) → beyond (xs ++ ys) wanted ≡ beyond ys (beyond xs wanted)
+pub beyond-append : (xs ys : List Event) (wanted : Option Point) →
+    beyond (xs ++ ys) wanted ≡ beyond ys (beyond xs wanted)
 beyond-append [] ys wanted = refl
 beyond-append (x ∷ xs) ys wanted = beyond-append xs ys (past x wanted)
 
@@ -13,14 +14,17 @@ path_to-by : (here : Bool) (x : Event) (xs ys : List Event) (wanted : Option Poi
     → path_to (xs ++ ys) x.before ≡ path_to xs x.before ++ path_to ys (beyond xs x.before)
     → path_to (xs ++ ys) wanted ≡ path_to xs wanted ++ path_to ys (beyond xs wanted)
     → (if here then x ∷ path_to (xs ++ ys) x.before else path_to (xs ++ ys) wanted)
-    ≡ (if here then x ∷ path_to xs x.before else path_to xs wanted) ++ path_to ys (beyond xs (if here then x.before else wanted))
+    ≡ (if here then x ∷ path_to xs x.before else path_to xs wanted)
+    ++ path_to ys (beyond xs (if here then x.before else wanted))
 path_to-by true x xs ys wanted found past_it = ap (λ path. x ∷ path) found
 path_to-by false x xs ys wanted found past_it = past_it
 
 -- and its path is that through the one and then that through the other
-pub path_to-append : (xs ys : List Event) (wanted : Option Point) → path_to (xs ++ ys) wanted ≡ path_to xs wanted ++ path_to ys (beyond xs wanted)
+pub path_to-append : (xs ys : List Event) (wanted : Option Point) → path_to (xs ++ ys) wanted ≡ path_to xs wanted
+    ++ path_to ys (beyond xs wanted)
 path_to-append [] ys wanted = refl
-path_to-append (x ∷ xs) ys wanted = path_to-by (is_wanted wanted x) x xs ys wanted (path_to-append xs ys x.before) (path_to-append xs ys wanted)
+path_to-append (x ∷ xs) ys wanted = path_to-by (is_wanted wanted x) x xs ys wanted (path_to-append xs ys x.before)
+    (path_to-append xs ys wanted)
 
 -- nothing is wanted
 pub path_to-none : (events : List Event) → path_to events None ≡ []
@@ -37,14 +41,16 @@ pub in_time-later : (n m : ℕ) (events : List Event) → n ≤ m → AreInTime 
 in_time-later n m [] more within = tt
 in_time-later n m (event ∷ older) more within = (omega (arith, more, within.0), within.1)
 
-in_time-by : (here : Bool) (cycles : ℕ) (event : Event) (found past_it : List Event) → event.cycle ≤ cycles → AreInTime event.cycle found
+in_time-by : (here : Bool) (cycles : ℕ) (event : Event) (found past_it : List Event) → event.cycle ≤ cycles →
+    AreInTime event.cycle found
     → AreInTime cycles past_it
     → AreInTime cycles (if here then event ∷ found else past_it)
 in_time-by true cycles event found past_it here within later = (here, within)
 in_time-by false cycles event found past_it here within later = later
 
 -- no event of a path comes later than the one that waited for it
-pub path-in_time : (cycles : ℕ) (events : List Event) (wanted : Option Point) → AreInTime cycles events → AreInTime cycles (path_to events wanted)
+pub path-in_time : (cycles : ℕ) (events : List Event) (wanted : Option Point) → AreInTime cycles events →
+    AreInTime cycles (path_to events wanted)
 path-in_time cycles [] wanted within = tt
 path-in_time cycles (event ∷ older) wanted within =
     in_time-by (is_wanted wanted event) cycles event (path_to older event.before) (path_to older wanted) within.0

@@ -29,13 +29,17 @@ account_at-root root wanted older is =
     subst (λ (r : Option Point). account_at wanted (account_of (path_to older r)) ≡ account_of (path_to older wanted))
     is (account_at-is wanted older)
 
-account_at-comes : (root : Option Point) (events older : List Event) (wanted : Option Point) → ComesTo root events wanted
-    → account_at (beyond events wanted) (account_of (path_to older root)) ≡ account_of (path_to older (beyond events wanted))
+account_at-comes : (root : Option Point) (events older : List Event) (wanted : Option Point) →
+    ComesTo root events wanted
+    → account_at (beyond events wanted) (account_of (path_to older root))
+    ≡ account_of (path_to older (beyond events wanted))
 account_at-comes root events older wanted (inl is) = account_at-root root (beyond events wanted) older is
-account_at-comes root events older wanted (inr none) = account_at-none (beyond events wanted) (account_of (path_to older root)) older none
+account_at-comes root events older wanted (inr none) =
+    account_at-none (beyond events wanted) (account_of (path_to older root)) older none
 
 -- the account of a path by its part after the root
-pub account_to-is : (root : Option Point) (events older : List Event) (wanted : Option Point) → ComesTo root events wanted
+pub account_to-is : (root : Option Point) (events older : List Event) (wanted : Option Point) →
+    ComesTo root events wanted
     → account_to events wanted (account_of (path_to older root)) ≡ account_of (path_to (events ++ older) wanted)
 account_to-is root events older wanted comes =
     ap (with_path (path_to events wanted)) (account_at-comes root events older wanted comes)
@@ -43,12 +47,14 @@ account_to-is root events older wanted comes =
     ∙ ap account_of (sym (path_to-append events older wanted))
 
 -- no event yet
-pub window_none : (window : Window) → window.events.items ≡ [] → window.root ≡ None → accounted window.account ≡ account_of [] → IsWindow window []
+pub window_none : (window : Window) → window.events.items ≡ [] → window.root ≡ None →
+    accounted window.account ≡ account_of [] → IsWindow window []
 window_none window events root account =
     record { older = []; all_are = ap (λ (es : List Event). reverse es ++ []) (sym events); account_is = account }
 
 -- one event more
-pub window_push : (old new : Window) (event : Event) (all : List Event) → new.events.items ≡ old.events.items ++ event ∷ []
+pub window_push : (old new : Window) (event : Event) (all : List Event) →
+    new.events.items ≡ old.events.items ++ event ∷ []
     → new.root ≡ old.root → accounted new.account ≡ accounted old.account
     → IsWindow old all → IsWindow new (event ∷ all)
 window_push old new event all events root account is = record {
@@ -60,17 +66,20 @@ window_push old new event all events root account is = record {
 }
 
 -- a walk that comes to the root still does with an event more whose own walk comes there
-pub come-push : (root : Option Point) (events : List Event) (event : Event) (wanted : Option Point) → ComesTo root events event.before
+pub come-push : (root : Option Point) (events : List Event) (event : Event) (wanted : Option Point) →
+    ComesTo root events event.before
     → ComesTo root events wanted → ComesTo root (event ∷ events) wanted
 come-push root events event wanted before comes = by_test (is_wanted wanted event) where
   by_test : (here : Bool) → ComesTo root events (if here then event.before else wanted)
   by_test true = before
   by_test false = comes
 
-pub passes_push : (old new : Window) (event : Event) (wanted : Option Point) → new.events.items ≡ old.events.items ++ event ∷ []
+pub passes_push : (old new : Window) (event : Event) (wanted : Option Point) →
+    new.events.items ≡ old.events.items ++ event ∷ []
     → new.root ≡ old.root → Passes old event.before → Passes old wanted → Passes new wanted
 passes_push old new event wanted events root before passes =
-    subst (λ (es : List Event). ComesTo new.root es wanted) (sym (ap reverse events ∙ reverse-push old.events.items event))
+    subst (λ (es : List Event). ComesTo new.root es wanted)
+    (sym (ap reverse events ∙ reverse-push old.events.items event))
     (subst (λ (r : Option Point). ComesTo r (event ∷ kept_events old) wanted) (sym root)
     (come-push old.root (kept_events old) event wanted before passes))
 
@@ -98,7 +107,8 @@ window_moved place root old new all comes moved is =
     record {
       older = front ++ is.older;
       all_are =
-          is.all_are ∙ ap (λ (es : List Event). es ++ is.older) (reverse-split place old.events.items) ∙ append_assoc back front is.older
+          is.all_are ∙ ap (λ (es : List Event). es ++ is.older) (reverse-split place old.events.items)
+          ∙ append_assoc back front is.older
           ∙ ap (λ (es : List Event). reverse es ++ (front ++ is.older)) (sym moved.0);
       account_is =
           moved.2 ∙ ap (account_to front root) is.account_is ∙ account_to-is old.root front is.older root comes
@@ -110,7 +120,8 @@ among-none : (wanted : Option Point) → IsAmong wanted [] → wanted ≡ None
 among-none None among = refl
 among-none (Some point) among = absurd among
 
-among-one : (wanted : Option Point) (point : Point) → IsAmong wanted (point ∷ []) → (wanted ≡ Some point) ⊎ (wanted ≡ None)
+among-one : (wanted : Option Point) (point : Point) → IsAmong wanted (point ∷ []) →
+    (wanted ≡ Some point) ⊎ (wanted ≡ None)
 among-one None point among = inr refl
 among-one (Some other) point (inl is) = inl (ap (λ (p : Point). Some p) (sym is))
 among-one (Some other) point (inr later) = absurd later
@@ -130,10 +141,12 @@ only-comes root events (point ∷ points) come = come.0
 all-root : (root : Option Point) (events : List Event) (points : List Point)
     → ((point : Point) → HasPoint point points → ComesTo root events (Some point)) → AllComeTo root events points
 all-root root events [] each = tt
-all-root root events (point ∷ points) each = (each point (inl refl), all-root root events points (λ other has. each other (inr has)))
+all-root root events (point ∷ points) each =
+    (each point (inl refl), all-root root events points (λ other has. each other (inr has)))
 
 pass_moved : (place : ℕ) (left : List Point) (old new : Window) (points : List Point) → length left ≤ 1
-    → ((wanted : Option Point) → IsAmong wanted points → IsAmong (beyond (reverse (drop place old.events.items)) wanted) left)
+    → ((wanted : Option Point) → IsAmong wanted points →
+    IsAmong (beyond (reverse (drop place old.events.items)) wanted) left)
     → IsMoved place (slice_get left 0) old new
     → AllPass new points
 pass_moved place left old new points few covers moved =
@@ -149,26 +162,33 @@ module _ (old new : Window) (events : List Event) (place : ℕ) (root : Option P
     (moved : IsMoved place root old new) where
   -- a window whose root moved to where all walks meet stands for the same events
   pub window_met : (all : List Event)
-      → ((r : Option Point) → AllComeTo r (reverse events) points → AllComeTo r (reverse (take place events)) left) → AllPass old points
+      → ((r : Option Point) → AllComeTo r (reverse events) points → AllComeTo r (reverse (take place events)) left) →
+      AllPass old points
       → IsWindow old all → IsWindow new all
   window_met all come pass is =
-      let comes = come old.root (subst (λ (es : List Event). AllComeTo old.root (reverse es) points) (sym events_are) pass) in
-      let met : ComesTo old.root (reverse (take place events)) (slice_get left 0) = only-comes old.root (reverse (take place events)) left comes in
+      let comes = come old.root (subst (λ (es : List Event). AllComeTo old.root (reverse es) points)
+      (sym events_are) pass) in
+      let met : ComesTo old.root (reverse (take place events)) (slice_get left 0) =
+      only-comes old.root (reverse (take place events)) left comes in
       window_moved place root old new all
       (subst (λ (es : List Event). ComesTo old.root (reverse (take place es)) root) events_are
       (subst (ComesTo old.root (reverse (take place events))) (sym root_is) met)) moved is
 
   -- and can be left by all points that it could be left by before
   pub pass_met : length left ≤ 1
-      → ((wanted : Option Point) → IsAmong wanted points → IsAmong (beyond (reverse (drop place events)) wanted) left) → AllPass new points
+      → ((wanted : Option Point) → IsAmong wanted points → IsAmong (beyond (reverse (drop place events)) wanted) left) →
+      AllPass new points
   pass_met few covers =
       pass_moved place left old new points few
-      (λ wanted among. subst (λ (es : List Event). IsAmong (beyond (reverse (drop place es)) wanted) left) events_are (covers wanted among))
+      (λ wanted among. subst (λ (es : List Event). IsAmong (beyond (reverse (drop place es)) wanted) left) events_are
+      (covers wanted among))
       (subst (λ (r : Option Point). IsMoved place r old new) root_is moved)
 
 -- the account of a path through a whole window
-pub account-end : (window : Window) (all : List Event) (wanted : Option Point) → IsWindow window all → Passes window wanted
+pub account-end : (window : Window) (all : List Event) (wanted : Option Point) → IsWindow window all →
+    Passes window wanted
     → account_to (kept_events window) wanted (accounted window.account) ≡ account_of (path_to all wanted)
 account-end window all wanted is passes =
-    ap (account_to (kept_events window) wanted) is.account_is ∙ account_to-is window.root (kept_events window) is.older wanted passes
+    ap (account_to (kept_events window) wanted) is.account_is ∙ account_to-is window.root (kept_events window)
+    is.older wanted passes
     ∙ ap (λ (es : List Event). account_of (path_to es wanted)) (sym is.all_are)

@@ -45,8 +45,10 @@ within_later cycles more known along within = record {
 }
 
 -- one cycle
-cycle_within : (s : Setting) (ways : List Way) (all : List Event) (steps : List Step) (after : HardwareRead) → AreInTime s.elapsed all
-    → AreHoldsOf (IsWithin s.elapsed) s.holds → IsBeforeOf (IsWithin s.elapsed) s.before → AreWaysOf (IsWithin s.elapsed) ways
+cycle_within : (s : Setting) (ways : List Way) (all : List Event) (steps : List Step) (after : HardwareRead) →
+    AreInTime s.elapsed all
+    → AreHoldsOf (IsWithin s.elapsed) s.holds → IsBeforeOf (IsWithin s.elapsed) s.before →
+    AreWaysOf (IsWithin s.elapsed) ways
     → AreWithin s.elapsed (known_in s ways all steps after)
 cycle_within s ways all steps after in-time holds before ways-are =
     let P = InTime s.elapsed all in
@@ -62,25 +64,35 @@ cycle_within s ways all steps after in-time holds before ways-are =
 
 -- the cycles of a run, one after another
 walk_within : (standing : Standing) (known : Known) (moments : List Moment) → AreWithin (length standing.reports) known
-    → AreWithin (length standing.reports + length moments) (fold known_after known (walk_from still_open standing moments))
-walk_within standing known [] within = within_later (length standing.reports) (length standing.reports + 0) known (omega arith) within
+    → AreWithin (length standing.reports + length moments)
+    (fold known_after known (walk_from still_open standing moments))
+walk_within standing known [] within = within_later (length standing.reports) (length standing.reports + 0)
+    known (omega arith) within
 walk_within standing known (moment ∷ moments) within =
     let cycle = next_cycle standing moment in
-    let one : length cycle.reports ≡ length standing.reports + 1 = length-append standing.reports (moment.report ∷ []) in
+    let one : length cycle.reports ≡ length standing.reports + 1 =
+    length-append standing.reports (moment.report ∷ []) in
     let s = setting_in cycle.number (length cycle.reports - 1) cycle.passages.rows cycle.after known in
     let elapsed : length standing.reports ≤ s.elapsed = omega (arith, one) in
     let now = within_later (length standing.reports) s.elapsed known elapsed within in
-    let after = cycle_within s known.ways known.events cycle.report.steps (read_of cycle.after) now.events now.live.holds now.live.before now.live.ways in
+    let after = cycle_within s known.ways known.events cycle.report.steps (read_of cycle.after) now.events
+    now.live.holds now.live.before now.live.ways in
     let next = within_later s.elapsed (length cycle.reports) (known_after known cycle) (omega (arith, one)) after in
     within_later (length cycle.reports + length moments) (length standing.reports + length (moment ∷ moments))
-    (fold known_after (known_after known cycle) (walk_from still_open (standing_after still_open cycle) moments)) (omega (arith, one))
+    (fold known_after (known_after known cycle) (walk_from still_open (standing_after still_open cycle) moments))
+    (omega (arith, one))
     (walk_within (standing_after still_open cycle) (known_after known cycle) moments next)
 
 -- no event of a run comes before the one that it waited for
 pub comes_in_time : ComesInTime
 comes_in_time first moments =
     let so_far : 0 + length moments ≡ length moments = omega arith in
-    let begins : IsWayOf (IsWithin 0) (way_from nothing_yet) = record { fetch = omega arith; dispatch = tt; issue = tt; broadcast = tt } in
+    let begins : IsWayOf (IsWithin 0) (way_from nothing_yet) = record {
+      fetch = omega arith;
+      dispatch = tt;
+      issue = tt;
+      broadcast = tt;
+    } in
     subst (λ cycles. AreWithin cycles (known_of first (walk still_open first moments))) so_far
     (walk_within (standing_at first) (known_at first) moments (record {
       live = record {

@@ -27,7 +27,8 @@ within-later old new more [] within = tt
 within-later old new more (w ∷ ws) within = (later old new more w within.0, within-later old new more ws within.1)
 
 -- cases of where a change is made
-module _ (address : ℕ) (change : WordCycles → WordCycles) (P : List WordCycles → Type 0) (w : WordCycles) (ws : List WordCycles) where
+module _ (address : ℕ) (change : WordCycles → WordCycles) (P : List WordCycles → Type 0) (w : WordCycles)
+    (ws : List WordCycles) where
   by_order : (low : Bool) → (w.address == address) ≡ false → nat_lt address w.address ≡ low
       → (address < w.address → P (change (no_cycles address) ∷ w ∷ ws))
       → (w.address < address → P (w ∷ with_change address change ws)) → P (with_change address change (w ∷ ws))
@@ -43,7 +44,8 @@ module _ (address : ℕ) (change : WordCycles → WordCycles) (P : List WordCycl
   by_test false is here new later = by_order (nat_lt address w.address) is refl new later
 
   -- what holds of a change at the first word, before it and after it holds of a change
-  pub by_place : (w.address ≡ address → P (change w ∷ ws)) → (address < w.address → P (change (no_cycles address) ∷ w ∷ ws))
+  pub by_place : (w.address ≡ address → P (change w ∷ ws)) →
+      (address < w.address → P (change (no_cycles address) ∷ w ∷ ws))
       → (w.address < address → P (w ∷ with_change address change ws)) → P (with_change address change (w ∷ ws))
   by_place here new later = by_test (w.address == address) refl here new later
 
@@ -59,7 +61,8 @@ module _ (address : ℕ) (change : WordCycles → WordCycles) where
   none cycles = record { all = refl; adds_up = refl; within = omega arith }
 
   -- all are within more cycles, where the changed one is
-  pub within-change : (old new : ℕ) → old ≤ new → ((w : WordCycles) → IsWithin old w → IsWithin new (change w)) → (words : List WordCycles)
+  pub within-change : (old new : ℕ) → old ≤ new → ((w : WordCycles) → IsWithin old w → IsWithin new (change w)) →
+      (words : List WordCycles)
       → AreWithin old words
       → AreWithin new (with_change address change words)
   within-change old new more then [] within = (then (no_cycles address) (none old), tt)
@@ -70,7 +73,8 @@ module _ (address : ℕ) (change : WordCycles → WordCycles) where
       (λ below. (later old new more w within.0, within-change old new more then ws within.1))
 
   module _ (keeps : (w : WordCycles) → (change w).address ≡ w.address) where
-    above-change : (low : ℕ) (words : List WordCycles) → low < address → AreAbove low words → AreAbove low (with_change address change words)
+    above-change : (low : ℕ) (words : List WordCycles) → low < address → AreAbove low words →
+        AreAbove low (with_change address change words)
     above-change low [] under above = (subst (λ (a : ℕ). low < a) (sym (keeps (no_cycles address))) under, tt)
     above-change low (w ∷ ws) under above =
         by_place address change (AreAbove low) w ws
@@ -86,7 +90,8 @@ module _ (address : ℕ) (change : WordCycles → WordCycles) where
         (λ above. (
           (
             subst (λ (a : ℕ). a < w.address) (sym (keeps (no_cycles address))) above,
-            subst (λ (a : ℕ). AreAbove a ws) (sym (keeps (no_cycles address))) (above-lower address w.address ws above order.0),
+            subst (λ (a : ℕ). AreAbove a ws) (sym (keeps (no_cycles address)))
+                (above-lower address w.address ws above order.0),
           ),
           order,
         ))
@@ -96,10 +101,12 @@ module _ (address : ℕ) (change : WordCycles → WordCycles) where
 pub in_order-made : (address : ℕ) (change : WordCycles → WordCycles)
     (keeps : (w : WordCycles) → (change w).address ≡ w.address) (old new : List WordCycles) → IsInOrder old →
     new ≡ with_change address change old → IsInOrder new
-in_order-made address change keeps old new order made = subst IsInOrder (sym made) (in_order-change address change keeps old order)
+in_order-made address change keeps old new order made =
+    subst IsInOrder (sym made) (in_order-change address change keeps old order)
 
 -- nothing changes
-pub within-begun : (address cycles : ℕ) (old new : List WordCycles) → new ≡ with_change address (λ w. w) old → AreWithin cycles old
+pub within-begun : (address cycles : ℕ) (old new : List WordCycles) → new ≡ with_change address (λ w. w) old →
+    AreWithin cycles old
     → AreWithin cycles new
 within-begun address cycles old new made within =
     subst (AreWithin cycles) (sym made)

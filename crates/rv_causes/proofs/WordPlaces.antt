@@ -11,13 +11,15 @@ use Rattle.rv_causes.specs.Words.{AreAbove, IsInOrder, IsPlaceFor, IsPlaceOf}
 use Rattle.rv_causes.specs.declared.word_cycles.WordCycles.{WordCycles}
 
 -- all have what each has
-pub within-at : (cycles : ℕ) (words : List WordCycles) (i : ℕ) (d : WordCycles) → AreWithin cycles words → i < length words
+pub within-at : (cycles : ℕ) (words : List WordCycles) (i : ℕ) (d : WordCycles) → AreWithin cycles words →
+    i < length words
     → IsWithin cycles (get_or words i d)
 within-at cycles [] i d within here = absurd (omega arith)
 within-at cycles (w ∷ ws) zero d within here = within.0
 within-at cycles (w ∷ ws) (suc i) d within here = within-at cycles ws i d within.1 (omega arith)
 
-above-at : (low : ℕ) (words : List WordCycles) (i : ℕ) (d : WordCycles) → AreAbove low words → i < length words → low < (get_or words i d).address
+above-at : (low : ℕ) (words : List WordCycles) (i : ℕ) (d : WordCycles) → AreAbove low words → i < length words →
+    low < (get_or words i d).address
 above-at low [] i d above here = absurd (omega arith)
 above-at low (w ∷ ws) zero d above here = above.0
 above-at low (w ∷ ws) (suc i) d above here = above-at low ws i d above.1 (omega arith)
@@ -27,7 +29,8 @@ pub in_order-le : (words : List WordCycles) (i j : ℕ) (d e : WordCycles) → I
     → (get_or words i d).address ≤ (get_or words j e).address
 in_order-le [] i j d e order along within = absurd (omega arith)
 in_order-le (w ∷ ws) zero zero d e order along within = omega arith
-in_order-le (w ∷ ws) zero (suc j) d e order along within = let above = above-at w.address ws j e order.0 (omega arith) in omega (arith, above)
+in_order-le (w ∷ ws) zero (suc j) d e order along within = let above =
+    above-at w.address ws j e order.0 (omega arith) in omega (arith, above)
 in_order-le (w ∷ ws) (suc i) zero d e order along within = absurd (omega arith)
 in_order-le (w ∷ ws) (suc i) (suc j) d e order along within = in_order-le ws i j d e order.1 (omega arith) (omega arith)
 
@@ -48,14 +51,23 @@ over m n other above = elim (cases_Bool (nat_lt n m)) [
 ]
 
 module _ (address : ℕ) (change : WordCycles → WordCycles) where
-  lower : (w : WordCycles) (ws : List WordCycles) → w.address < address → with_change address change (w ∷ ws) ≡ w ∷ with_change address change ws
-  lower w ws below = rw (ne_eqb w.address address (λ is. omega (arith, is, below)), le-ltb address w.address (omega (arith, below))) refl
+  lower : (w : WordCycles) (ws : List WordCycles) → w.address < address → with_change address change (w ∷ ws) ≡ w
+      ∷ with_change address change ws
+  lower w ws below = rw (
+    ne_eqb w.address address (λ is. omega (arith, is, below)),
+    le-ltb address w.address (omega (arith, below)),
+  ) refl
 
-  here : (w : WordCycles) (ws : List WordCycles) → w.address ≡ address → with_change address change (w ∷ ws) ≡ change w ∷ ws
+  here : (w : WordCycles) (ws : List WordCycles) → w.address ≡ address →
+      with_change address change (w ∷ ws) ≡ change w ∷ ws
   here w ws is = rw (eq-eqb w.address address is) refl
 
-  higher : (w : WordCycles) (ws : List WordCycles) → address < w.address → with_change address change (w ∷ ws) ≡ change (no_cycles address) ∷ w ∷ ws
-  higher w ws above = rw (ne_eqb w.address address (λ is. omega (arith, is, above)), lt-ltb address w.address above) refl
+  higher : (w : WordCycles) (ws : List WordCycles) → address < w.address → with_change address change (w ∷ ws)
+      ≡ change (no_cycles address) ∷ w ∷ ws
+  higher w ws above = rw (
+    ne_eqb w.address address (λ is. omega (arith, is, above)),
+    lt-ltb address w.address above,
+  ) refl
 
   -- the word at a place is that of the address
   pub change-there : (words : List WordCycles) (i : ℕ) (d : WordCycles) → i < length words
@@ -64,10 +76,12 @@ module _ (address : ℕ) (change : WordCycles → WordCycles) where
   change-there [] i d within before is = absurd (omega arith)
   change-there (w ∷ ws) zero d within before is = here w ws is
   change-there (w ∷ ws) (suc i) d within before is =
-      lower w ws (before 0 w (omega arith)) ∙ ap (λ l. w ∷ l) (change-there ws i d (omega arith) (λ k v low. before (suc k) v (omega arith)) is)
+      lower w ws (before 0 w (omega arith))
+      ∙ ap (λ l. w ∷ l) (change-there ws i d (omega arith) (λ k v low. before (suc k) v (omega arith)) is)
 
   -- there is none of the address, and it belongs at a place
-  pub change-new : (words : List WordCycles) (i : ℕ) → i ≤ length words → ((k : ℕ) (w : WordCycles) → k < i → (get_or words k w).address < address)
+  pub change-new : (words : List WordCycles) (i : ℕ) → i ≤ length words →
+      ((k : ℕ) (w : WordCycles) → k < i → (get_or words k w).address < address)
       → ((k : ℕ) (w : WordCycles) → i ≤ k → k < length words → address < (get_or words k w).address)
       → with_change address change words ≡ insert words i (change (no_cycles address))
   change-new [] zero within before after = refl
@@ -87,13 +101,16 @@ module _ (address : ℕ) where
   found-there [] i d within before is = absurd (omega arith)
   found-there (w ∷ ws) zero d within before is = rw (eq-eqb w.address address is) refl
   found-there (w ∷ ws) (suc i) d within before is =
-      rw (ne_eqb w.address address (λ same. let low = before 0 w (omega arith) in omega (arith, same, low))) (found-there ws i d (omega arith) (λ k v low. before (suc k) v (omega arith)) is)
+      rw (ne_eqb w.address address (λ same. let low = before 0 w (omega arith) in omega (arith, same, low)))
+      (found-there ws i d (omega arith) (λ k v low. before (suc k) v (omega arith)) is)
 
   -- and none where all are of other addresses
-  pub found-none : (words : List WordCycles) → ((k : ℕ) (w : WordCycles) → k < length words → (get_or words k w).address ≡ address → ⊥)
+  pub found-none : (words : List WordCycles) →
+      ((k : ℕ) (w : WordCycles) → k < length words → (get_or words k w).address ≡ address → ⊥)
       → cycles_at address words ≡ 0
   found-none [] others = refl
-  found-none (w ∷ ws) others = rw (ne_eqb w.address address (others 0 w (omega arith))) (found-none ws (λ k v within. others (suc k) v (omega arith)))
+  found-none (w ∷ ws) others = rw (ne_eqb w.address address (others 0 w (omega arith)))
+      (found-none ws (λ k v within. others (suc k) v (omega arith)))
 
 -- what was put in at a place may be changed there
 set-insert : {X : Type 0} (xs : List X) (i : ℕ) (x y : X) → i ≤ length xs → set (insert xs i x) i y ≡ insert xs i y
@@ -104,7 +121,8 @@ set-insert (z ∷ xs) (suc i) x y within = ap (λ l. z ∷ l) (set-insert xs i x
 
 module _ (address : ℕ) (words : List WordCycles) (place : ℕ) where
   -- the cycles of an address are those of the word at its place
-  pub cycles-there : IsPlaceOf address place words → (w : WordCycles) → (get_or words place w).cycles ≡ cycles_at address words
+  pub cycles-there : IsPlaceOf address place words → (w : WordCycles) → (get_or words place w).cycles
+      ≡ cycles_at address words
   cycles-there is w = sym (found-there address words place w is.within is.before (is.there w))
 
   -- and none where there is no word of it
@@ -124,7 +142,8 @@ module _ (address : ℕ) (words : List WordCycles) (place : ℕ) where
   begun-there is = sym (change-at is (λ w. w) (no_cycles address) ∙ set-get_or words place (no_cycles address))
 
   -- and where one that has no cycles is put in first
-  pub begun-new : IsPlaceFor address place words → insert words place (no_cycles address) ≡ with_change address (λ w. w) words
+  pub begun-new : IsPlaceFor address place words → insert words place (no_cycles address)
+      ≡ with_change address (λ w. w) words
   begun-new is = sym (change-new address (λ w. w) words place is.within is.before is.after)
 
   change-begun : IsPlaceFor address place words → (change : WordCycles → WordCycles) (w : WordCycles)
@@ -134,10 +153,13 @@ module _ (address : ℕ) (words : List WordCycles) (place : ℕ) where
   change-begun is change w =
       change-new address change words place is.within is.before is.after
       ∙ sym (set-insert words place (no_cycles address) (change (no_cycles address)) is.within)
-      ∙ ap (λ v. set (insert words place (no_cycles address)) place (change v)) (sym (get_or-insert_at words place (no_cycles address) w is.within))
+      ∙ ap (λ v. set (insert words place (no_cycles address)) place (change v))
+      (sym (get_or-insert_at words place (no_cycles address) w is.within))
 
   -- a change of a word that is put in first is the change at its place
-  pub change-made : IsPlaceFor address place words → (made : List WordCycles) → made ≡ insert words place (no_cycles address)
+  pub change-made : IsPlaceFor address place words → (made : List WordCycles) →
+      made ≡ insert words place (no_cycles address)
       → (change : WordCycles → WordCycles) (w : WordCycles)
       → with_change address change words ≡ set made place (change (get_or made place w))
-  change-made is made made_is change w = change-begun is change w ∙ ap (λ ws. set ws place (change (get_or ws place w))) (sym made_is)
+  change-made is made made_is change w = change-begun is change w
+      ∙ ap (λ ws. set ws place (change (get_or ws place w))) (sym made_is)

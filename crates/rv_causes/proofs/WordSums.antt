@@ -7,17 +7,24 @@ use Rattle.rv_causes.proofs.WordChanges.{by_place}
 use Rattle.rv_causes.proofs.WordWaits.{within-word}
 
 -- those of the first and of the others
-words-cons : (word : WordCycles) (words : List WordCycles) → words_cycles (word ∷ words) ≡ word.cycles + words_cycles words
+words-cons : (word : WordCycles) (words : List WordCycles) → words_cycles (word ∷ words)
+    ≡ word.cycles + words_cycles words
 words-cons word words = sum_by-cons (λ (w : WordCycles). w.cycles) word words
 
 module _ (address : ℕ) (why : Cause) (more : ℕ) where
-  words-change : (words : List WordCycles) → words_cycles (with_change address (with_more why more) words) ≡ words_cycles words + more
+  words-change : (words : List WordCycles) → words_cycles (with_change address (with_more why more) words)
+      ≡ words_cycles words + more
   words-change [] = omega arith
   words-change (w ∷ ws) =
       by_place address (with_more why more) (λ words. words_cycles words ≡ words_cycles (w ∷ ws) + more) w ws
       (λ is. omega (arith, words-cons w ws, words-cons (with_more why more w) ws))
       (λ above. omega (arith, words-cons (with_more why more (no_cycles address)) (w ∷ ws)))
-      (λ below. omega (arith, words-cons w ws, words-cons w (with_change address (with_more why more) ws), words-change ws))
+      (λ below. omega (
+        arith,
+        words-cons w ws,
+        words-cons w (with_change address (with_more why more) ws),
+        words-change ws,
+      ))
 
 -- all together, with so many more
 words-with : (address : Option ℕ) (why : Cause) (more : ℕ) (words : List WordCycles)
@@ -30,11 +37,17 @@ pub words-within : (path : List Event) → words_cycles (account_of path).words 
 words-within [] = omega arith
 words-within (event ∷ older) =
     let before = account_of older in
-    omega (arith, words-within older, words-with event.reason.address event.reason.cause (event.cycle - before.cycles) before.words)
+    omega (
+      arith,
+      words-within older,
+      words-with event.reason.address event.reason.cause (event.cycle
+          - before.cycles) before.words,
+    )
 
 -- each of them
 pub words_add_up : (path : List Event) → AreWithin (account_of path).cycles (account_of path).words
 words_add_up [] = tt
 words_add_up (event ∷ older) =
     let before = account_of older in
-    within-word event.reason.address before.cycles (event.cycle - before.cycles) event.reason.cause before.words (words_add_up older)
+    within-word event.reason.address before.cycles (event.cycle - before.cycles) event.reason.cause
+    before.words (words_add_up older)

@@ -44,7 +44,8 @@ number_read low high E t v parsed =
     let fits : nat_lt n (2 ^ 64) ≡ true = (both _ _ (both _ _ passes).1).0 in
     rw (numeral, fits, parsed.1) refl
 
-none_read : (low high : ℕ) {E : Type 0} (t : List ℕ) (e : E) → ParsesUnsigned 64 10 t (Err e) → None ≡ number_from low high t
+none_read : (low high : ℕ) {E : Type 0} (t : List ℕ) (e : E) → ParsesUnsigned 64 10 t (Err e) →
+    None ≡ number_from low high t
 none_read low high t e refused = go (is_unsigned_in low high t) refl
   where
     go : (b : Bool) → is_unsigned_in low high t ≡ b

@@ -39,11 +39,13 @@ kinds_or_other [] next e (inr among) = absurd among
 kinds_or_other (k ∷ ks) next e has = has
 
 -- words that are refused have an error of a kind that they may have
-pub refused_kind : (words : List Text) (e : Error) → HasKind (fault_of program_arguments words) e → HasKind (refused_kinds words) e
+pub refused_kind : (words : List Text) (e : Error) → HasKind (fault_of program_arguments words) e →
+    HasKind (refused_kinds words) e
 refused_kind words e has = kinds_or_other (fault_of program_arguments words) (ValueValidation ∷ []) e has
 
 -- words that are taken, and name no command
-pub other_kind : (words : List Text) (e : Error) → fault_of program_arguments words ≡ [] → HasKind (ValueValidation ∷ []) e
+pub other_kind : (words : List Text) (e : Error) → fault_of program_arguments words ≡ [] →
+    HasKind (ValueValidation ∷ []) e
     → HasKind (refused_kinds words) e
 other_kind words e none has = subst (λ kinds. HasKind (or_else kinds (ValueValidation ∷ [])) e) (sym none) has
 

@@ -117,14 +117,16 @@ module _ (arrivals : List Arrival) (old : GuidedHardware) where
         (run : Counted) → AreCounts progress steps stop run →
         IsCountedRun arrivals limit old.hardware old.predictor now.hardware now.predictor run
     counted_to limit stop ends run are =
-        counted_by (watched_to HasTaken arrivals old uncounted None counting {Refusal = Unit {0}} limit (Ok stop) ends) run are
+        counted_by (watched_to HasTaken arrivals old uncounted None counting {Refusal = Unit {0}} limit
+        (Ok stop) ends) run are
 
     -- one more cycle, whose steps were taken
     module _ {after : Hardware} {predictor : Guide} {progress' : Progress} {steps' : Steps} {stop : Option Stop}
         (next : TakesNextCycle arrivals now.hardware now.predictor after predictor steps steps' progress progress' stop)
         (within : now.hardware.cycle < 2 ^ 40) where
       taken_with : (before : Option (List ℕ)) → Takes uncounted steps (steps_of (reports_of counting.moments)) →
-          Takes uncounted steps' (steps_of (reports_of (counting.moments ++ record { report = next.report; after = after } ∷ [])))
+          Takes uncounted steps' (steps_of
+          (reports_of (counting.moments ++ record { report = next.report; after = after } ∷ [])))
       taken_with before taken =
           subst (Takes uncounted steps') (sym (shown_steps-push counting.moments _)) (takes_more _ _ taken next.taken)
 
@@ -135,12 +137,14 @@ module _ (arrivals : List Arrival) (old : GuidedHardware) where
       -- with one that does not stop, the run goes on
       pub counting_on : stop ≡ None → IsCounting (guided after predictor) progress' steps'
       counting_on goes =
-          watching_on HasTaken arrivals old uncounted None counting (next_reported next) refl refl next.reached refl within taken_with goes
+          watching_on HasTaken arrivals old uncounted None counting (next_reported next) refl refl next.reached refl
+          within taken_with goes
 
       -- and with one that stops it is over
       pub counted_to_stop : (limit : ℕ) (reason : Stop) → stop ≡ Some reason → progress.cycles < limit →
           (run : Counted) → AreCounts progress' steps' reason run →
           IsCountedRun arrivals limit old.hardware old.predictor after predictor run
       counted_to_stop limit reason is short run are =
-          counted_by (watched_to_stop HasTaken arrivals old uncounted None counting (next_reported next) refl refl next.reached refl within taken_with
+          counted_by (watched_to_stop HasTaken arrivals old uncounted None counting (next_reported next) refl refl
+          next.reached refl within taken_with
           {Refusal = Unit {0}} limit reason is short) run are

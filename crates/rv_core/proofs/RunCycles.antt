@@ -32,16 +32,17 @@ pub next_cycle : {arrivals : List Arrival} {old new : Hardware} {taught learned 
     Reachable old → lines ≡ lines_at arrivals old.cycle → IsCommitStop end.stop →
     progress' ≡ progress_after (report_with done.0 end) progress →
     TakesNextCycle arrivals old taught new learned steps steps' progress progress' end.stop
-next_cycle {old = old} {new = new} {taught = taught} {learned = learned} lines end done reached are reason counts = record {
-  reached = reached;
-  report = report_with done.0 end;
-  cycle = subst (λ l. DoesCycle l old taught (report_with done.0 end) new learned) are done.3;
-  few = done.2;
-  taken = done.1;
-  counted = counts;
-  stop_is = refl;
-  reason = reason;
-}
+next_cycle {old = old} {new = new} {taught = taught} {learned = learned} lines end done reached are reason counts =
+    record {
+      reached = reached;
+      report = report_with done.0 end;
+      cycle = subst (λ l. DoesCycle l old taught (report_with done.0 end) new learned) are done.3;
+      few = done.2;
+      taken = done.1;
+      counted = counts;
+      stop_is = refl;
+      reason = reason;
+    }
 
 -- such a cycle, by the steps that it reports
 abbrev pub next_reported : {arrivals : List Arrival} {old new : Hardware} {taught learned : Guide}

@@ -8,7 +8,8 @@ use Rattle.rv_hardware.specs.Step.{is_interrupt, is_trap}
 use Rattle.rv_core.specs.Steps.{HasRoom, Takes, listed}
 use Rattle.rv_core.specs.declared.steps.Steps.{Steps}
 
-count_by-append : (p : Step → Bool) (some more : List Step) → count_by p (some ++ more) ≡ count_by p some + count_by p more
+count_by-append : (p : Step → Bool) (some more : List Step) → count_by p (some ++ more)
+    ≡ count_by p some + count_by p more
 count_by-append p some more = sum_by-append _ some more
 
 -- no step
@@ -24,13 +25,15 @@ takes_none steps = record {
 
 module _ {old now : Steps} where
   -- some, and some more
-  pub takes_more : {new : Steps} (some more : List Step) → Takes old now some → Takes now new more → Takes old new (some ++ more)
+  pub takes_more : {new : Steps} (some more : List Step) → Takes old now some → Takes now new more →
+      Takes old new (some ++ more)
   takes_more some more first then = record {
     count = omega (arith, first.count, then.count, length-append some more);
     traps = omega (arith, first.traps, then.traps, count_by-append is_trap some more);
     interrupts = omega (arith, first.interrupts, then.interrupts, count_by-append is_interrupt some more);
     kept = then.kept ∙ first.kept;
-    lists = λ is. then.lists (first.kept ∙ is) ∙ ap (λ l. l ++ more) (first.lists is) ∙ append_assoc (listed old) some more;
+    lists = λ is. then.lists (first.kept ∙ is) ∙ ap (λ l. l ++ more) (first.lists is)
+        ∙ append_assoc (listed old) some more;
     room = then.room ∙ first.room;
   }
 

@@ -28,7 +28,8 @@ module _ (arrivals : List Arrival) (limit : ℕ) (old new : GuidedHardware) (rea
   module _ (ended : Result Outcome OutOfMemory)
       (is : MatchResult ended (IsOutcome arrivals limit old new) (IsCutShort arrivals limit old new)) where
     -- the promise is kept, to the end or as far as the run came
-    pub promise_is_kept : MatchResult ended (λ outcome. KeepsPromise arrivals old.hardware new.hardware (reported outcome))
+    pub promise_is_kept : MatchResult ended
+        (λ outcome. KeepsPromise arrivals old.hardware new.hardware (reported outcome))
         (λ done. KeepsPromise arrivals old.hardware new.hardware (reported_so_far done))
     promise_is_kept =
         MatchResult-weaker ended is

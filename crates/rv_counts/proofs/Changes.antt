@@ -24,7 +24,8 @@ none_of zero never = refl
 none_of (suc n) never = absurd (never (omega arith))
 
 -- cases of where a change is made
-module _ (address : ℕ) (change : WordCounts → WordCounts) (P : List WordCounts → Type 0) (w : WordCounts) (ws : List WordCounts) where
+module _ (address : ℕ) (change : WordCounts → WordCounts) (P : List WordCounts → Type 0) (w : WordCounts)
+    (ws : List WordCounts) where
   by_order : (low : Bool) → (w.address == address) ≡ false → nat_lt address w.address ≡ low →
       (address < w.address → P (change (nothing_at address) ∷ w ∷ ws))
       → (w.address < address → P (w ∷ with_change address change ws)) → P (with_change address change (w ∷ ws))
@@ -40,7 +41,8 @@ module _ (address : ℕ) (change : WordCounts → WordCounts) (P : List WordCoun
   by_test false is here new later = by_order (nat_lt address w.address) is refl new later
 
   -- a property of the counts with a change is shown by where the address of the first stands
-  pub by_place : (w.address ≡ address → P (change w ∷ ws)) → (address < w.address → P (change (nothing_at address) ∷ w ∷ ws))
+  pub by_place : (w.address ≡ address → P (change w ∷ ws)) →
+      (address < w.address → P (change (nothing_at address) ∷ w ∷ ws))
       → (w.address < address → P (w ∷ with_change address change ws)) → P (with_change address change (w ∷ ws))
   by_place here new later = by_test (w.address == address) refl here new later
 
@@ -62,7 +64,8 @@ module _ (address : ℕ) (change : WordCounts → WordCounts) where
       (λ above. omega arith) (λ below. omega (arith, length-change ws))
 
   module _ (keeps : (w : WordCounts) → (change w).address ≡ w.address) where
-    above-change : (low : ℕ) (words : List WordCounts) → low < address → AreAbove low words → AreAbove low (with_change address change words)
+    above-change : (low : ℕ) (words : List WordCounts) → low < address → AreAbove low words →
+        AreAbove low (with_change address change words)
     above-change low words under above =
         each-change (λ w. low < w.address) (λ w over. subst (λ (a : ℕ). low < a) (sym (keeps w)) over)
         (subst (λ (a : ℕ). low < a) (sym (keeps (nothing_at address))) under) words above
@@ -92,18 +95,22 @@ module _ (address : ℕ) (change : WordCounts → WordCounts) where
         (λ above. inl (keeps (nothing_at address))) (λ below. inr (has-change ws))
 
     -- an address that has counts keeps them
-    pub has-kept : (other : ℕ) (words : List WordCounts) → HasAddress other words → HasAddress other (with_change address change words)
+    pub has-kept : (other : ℕ) (words : List WordCounts) → HasAddress other words →
+        HasAddress other (with_change address change words)
     has-kept other [] has = absurd has
     has-kept other (w ∷ ws) (inl is) =
-        by_place address change (HasAddress other) w ws (λ here. inl (keeps w ∙ is)) (λ above. inr (inl is)) (λ below. inl is)
+        by_place address change (HasAddress other) w ws (λ here. inl (keeps w ∙ is))
+        (λ above. inr (inl is)) (λ below. inl is)
     has-kept other (w ∷ ws) (inr later) =
-        by_place address change (HasAddress other) w ws (λ here. inr later) (λ above. inr (inr later)) (λ below. inr (has-kept other ws later))
+        by_place address change (HasAddress other) w ws (λ here. inr later) (λ above. inr (inr later))
+        (λ below. inr (has-kept other ws later))
 
 -- counts that a change of some others makes are in order
 pub in_order-made : (address : ℕ) (change : WordCounts → WordCounts)
     (keeps : (w : WordCounts) → (change w).address ≡ w.address) (old new : List WordCounts) → IsInOrder old →
     new ≡ with_change address change old → IsInOrder new
-in_order-made address change keeps old new order made = subst IsInOrder (sym made) (in_order-change address change keeps old order)
+in_order-made address change keeps old new order made =
+    subst IsInOrder (sym made) (in_order-change address change keeps old order)
 
 -- none of a lower address is among those above
 above-lacks : (address : ℕ) (words : List WordCounts) → AreAbove address words → HasAddress address words → ⊥
@@ -115,7 +122,8 @@ above-lacks address (w ∷ ws) above (inr later) = above-lacks address ws above.
 -- alone.
 module _ (address : ℕ) (change : WordCounts → WordCounts) (old new : ℕ → WordCounts)
     (others : (other : ℕ) → (other ≡ address → ⊥) → new other ≡ old other) (here : change (old address) ≡ new address)
-    (none : times_of (old address) ≡ 0 → old address ≡ nothing_at address) (place : (other : ℕ) → (new other).address ≡ other) where
+    (none : times_of (old address) ≡ 0 → old address ≡ nothing_at address) (place : (other : ℕ) →
+    (new other).address ≡ other) where
   abbrev AreOld : List WordCounts → Type 0
   AreOld words = Each (λ w. w ≡ old w.address) words
 
@@ -135,16 +143,19 @@ module _ (address : ℕ) (change : WordCounts → WordCounts) (old new : ℕ →
   is_new : (w : WordCounts) → w ≡ new address → w ≡ new w.address
   is_new w is = is ∙ ap new (sym (ap (λ (v : WordCounts). v.address) is ∙ place address))
 
-  fresh : (words : List WordCounts) → Lists words → (HasAddress address words → ⊥) → change (nothing_at address) ≡ new address
+  fresh : (words : List WordCounts) → Lists words → (HasAddress address words → ⊥) →
+      change (nothing_at address) ≡ new address
   fresh words lists lacks =
       let unseen : times_of (old address) ≡ 0 = none_of (times_of (old address)) (λ some. lacks (lists some)) in
       ap change (sym (none unseen)) ∙ here
 
-  above_all : (w : WordCounts) (ws : List WordCounts) → address < w.address → AreAbove w.address ws → AreAbove address (w ∷ ws)
+  above_all : (w : WordCounts) (ws : List WordCounts) → address < w.address → AreAbove w.address ws →
+      AreAbove address (w ∷ ws)
   above_all w ws above order = (above, each-by ws (λ v over. omega (arith, over, above)) order)
 
   -- each address is counted as before, but the changed one
-  pub counted-change : (words : List WordCounts) → IsInOrder words → AreOld words → Lists words → AreNew (with_change address change words)
+  pub counted-change : (words : List WordCounts) → IsInOrder words → AreOld words → Lists words →
+      AreNew (with_change address change words)
   counted-change [] order are lists = (is_new _ (fresh [] lists (λ has. has)), tt)
   counted-change (w ∷ ws) order are lists =
       by_place address change AreNew w ws

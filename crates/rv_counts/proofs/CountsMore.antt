@@ -26,8 +26,10 @@ one_more-cond true count = omega arith
 one_more-cond false count = omega arith
 
 -- one passage more is counted where it passes the test
-pub count_by-cons : (test : Passage → Bool) (p : Passage) (ps : List Passage) → count_by test (p ∷ ps) ≡ one_more (test p) (count_by test ps)
-count_by-cons test p ps = sum_by-cons (λ (q : Passage). cond (test q) 1 0) p ps ∙ one_more-cond (test p) (count_by test ps)
+pub count_by-cons : (test : Passage → Bool) (p : Passage) (ps : List Passage) →
+    count_by test (p ∷ ps) ≡ one_more (test p) (count_by test ps)
+count_by-cons test p ps = sum_by-cons (λ (q : Passage). cond (test q) 1 0) p ps
+    ∙ one_more-cond (test p) (count_by test ps)
 
 -- the counts by how many were fetched, how many were squashed, and those that retired
 abbrev built : LoadCosts → ℕ → ℕ → ℕ → ℕ → List Passage → WordCounts
@@ -53,16 +55,19 @@ module _ (costs : LoadCosts) (address heads : ℕ) (p : Passage) (ps : List Pass
   fetched : length (p ∷ ps) ≡ length ps + 1
   fetched = omega arith
 
-  squashed : (is : Bool) → is_squash p.ending ≡ is → count_by (λ q. is_squash q.ending) (p ∷ ps) ≡ one_more is counts.squashed
+  squashed : (is : Bool) → is_squash p.ending ≡ is → count_by (λ q. is_squash q.ending) (p ∷ ps)
+      ≡ one_more is counts.squashed
   squashed is test = count_by-cons (λ q. is_squash q.ending) p ps ∙ ap (λ t. one_more t counts.squashed) test
 
   kept : (e : Ending) → p.ending ≡ e → is_retirement e ≡ false → retired_of (p ∷ ps) ≡ retired_of ps
   kept e is none = rw (is, none) refl
 
-  added-by : (e : Ending) → p.ending ≡ e → with_ended e costs p (record counts { fetched = counts.fetched + 1 }) ≡ added costs p counts
+  added-by : (e : Ending) → p.ending ≡ e → with_ended e costs p (record counts { fetched = counts.fetched + 1 })
+      ≡ added costs p counts
   added-by e is = sym (ap (λ end. with_ended end costs p (record counts { fetched = counts.fetched + 1 })) is)
 
-  more : (count : ℕ) (retired : List Passage) → count_by (λ q. is_squash q.ending) (p ∷ ps) ≡ count → retired_of (p ∷ ps) ≡ retired
+  more : (count : ℕ) (retired : List Passage) → count_by (λ q. is_squash q.ending) (p ∷ ps) ≡ count →
+      retired_of (p ∷ ps) ≡ retired
       → counts_of costs address (p ∷ ps) heads ≡ built costs address heads (length ps + 1) count retired
   more count retired count_is retired_are = λ i. built costs address heads (fetched i) (count_is i) (retired_are i)
 
@@ -105,7 +110,8 @@ module _ (costs : LoadCosts) (address heads : ℕ) (p : Passage) (ps : List Pass
       more counts.squashed (retired_of ps) (squashed false (ap is_squash is))
       (kept (ending.Trapped cycle cause) is refl) ∙ added-by (ending.Trapped cycle cause) is
   by_ending ending.InFlight is =
-      more counts.squashed (retired_of ps) (squashed false (ap is_squash is)) (kept ending.InFlight is refl) ∙ added-by ending.InFlight is
+      more counts.squashed (retired_of ps) (squashed false (ap is_squash is)) (kept ending.InFlight is refl)
+      ∙ added-by ending.InFlight is
 
   -- one more passage at the address
   pub counts_of-cons : counts_of costs address (p ∷ ps) heads ≡ added costs p counts
@@ -116,9 +122,11 @@ module _ (costs : LoadCosts) (passages : List Passage) (heads : List ℕ) where
   head_count those address = count_by (λ head. head == address) those
 
   -- one more passage changes the counts at its address
-  pub counts_at-here : (p : Passage) → added costs p (counts_at costs passages heads p.pc) ≡ counts_at costs (p ∷ passages) heads p.pc
+  pub counts_at-here : (p : Passage) → added costs p (counts_at costs passages heads p.pc)
+      ≡ counts_at costs (p ∷ passages) heads p.pc
   counts_at-here p =
-      let here : filter (is_at p.pc) (p ∷ passages) ≡ p ∷ filter (is_at p.pc) passages = rw (eq-eqb p.pc p.pc refl) refl in
+      let here : filter (is_at p.pc) (p ∷ passages) ≡ p ∷ filter (is_at p.pc) passages =
+      rw (eq-eqb p.pc p.pc refl) refl in
       sym (ap (λ those. counts_of costs p.pc those (head_count heads p.pc)) here
       ∙ counts_of-cons costs p.pc (head_count heads p.pc) p (filter (is_at p.pc) passages))
 
@@ -126,7 +134,8 @@ module _ (costs : LoadCosts) (passages : List Passage) (heads : List ℕ) where
   pub counts_at-other : (p : Passage) (address : ℕ) → (address ≡ p.pc → ⊥) →
       counts_at costs (p ∷ passages) heads address ≡ counts_at costs passages heads address
   counts_at-other p address other =
-      let past : filter (is_at address) (p ∷ passages) ≡ filter (is_at address) passages = rw (ne_eqb p.pc address (λ is. other (sym is))) refl in
+      let past : filter (is_at address) (p ∷ passages) ≡ filter (is_at address) passages =
+      rw (ne_eqb p.pc address (λ is. other (sym is))) refl in
       ap (λ those. counts_of costs address those (head_count heads address)) past
 
   head_count-cons : (head address : ℕ) (is : Bool) → (head == address) ≡ is →
@@ -137,7 +146,8 @@ module _ (costs : LoadCosts) (passages : List Passage) (heads : List ℕ) where
       ∙ ap (λ t. one_more t (head_count heads address)) test
 
   -- one more cycle at the head changes the counts at its address
-  pub counts_at-head : (head : ℕ) → once_more_at_head (counts_at costs passages heads head) ≡ counts_at costs passages (head ∷ heads) head
+  pub counts_at-head : (head : ℕ) → once_more_at_head (counts_at costs passages heads head)
+      ≡ counts_at costs passages (head ∷ heads) head
   counts_at-head head =
       sym (ap (λ count. counts_of costs head (filter (is_at head) passages) count)
       (head_count-cons head head true (eq-eqb head head refl)))
@@ -149,7 +159,8 @@ module _ (costs : LoadCosts) (passages : List Passage) (heads : List ℕ) where
       ap (λ count. counts_of costs address (filter (is_at address) passages) count)
       (head_count-cons head address false (ne_eqb head address (λ is. other (sym is))))
 
-  nothing_of : (address : ℕ) (those : List Passage) (count : ℕ) → length those + count ≡ 0 → counts_of costs address those count ≡ nothing_at address
+  nothing_of : (address : ℕ) (those : List Passage) (count : ℕ) → length those + count ≡ 0 →
+      counts_of costs address those count ≡ nothing_at address
   nothing_of address [] count none = ap (λ n. counts_of costs address [] n) (omega (arith, none))
   nothing_of address (p ∷ ps) count none = absurd (omega (arith, none))
 

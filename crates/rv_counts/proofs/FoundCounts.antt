@@ -22,14 +22,17 @@ module _ {X : Type 0} (test : X → Bool) where
       ]
 
   -- of two runs their counts together
-  pub counted_runs : (old young all : List X) (first second : ℕ) → old ++ young ≡ all → first ≡ count_by test old → second ≡ count_by test young →
+  pub counted_runs : (old young all : List X) (first second : ℕ) → old ++ young ≡ all → first ≡ count_by test old →
+      second ≡ count_by test young →
       first + second ≡ count_by test all
   counted_runs old young all first second are olds youngs =
       (λ i. olds i + youngs i) ∙ sym (sum_by-append (λ (x : X). cond (test x) 1 0) old young) ∙ ap (count_by test) are
 
   -- the count goes on by a place
-  pub counted_on : (xs : List X) (place found found' : ℕ) (x d : X) (answer : Bool) → place < length xs → x ≡ get_or xs place d →
-      answer ≡ test x → (found ≡ count_by test (take place xs)) × (found ≤ place) → found' ≡ cond answer (found + 1) found →
+  pub counted_on : (xs : List X) (place found found' : ℕ) (x d : X) (answer : Bool) → place < length xs →
+      x ≡ get_or xs place d →
+      answer ≡ test x → (found ≡ count_by test (take place xs)) × (found ≤ place) →
+      found' ≡ cond answer (found + 1) found →
       (found' ≡ count_by test (take (place + 1) xs)) × (found' ≤ place + 1)
   counted_on xs place found found' x d answer within is answered so_far more =
       let here = sym (ap test is) in

@@ -20,10 +20,12 @@ left_in-push (cycle ∷ cycles) last =
     ∙ append_assoc (filter has_left last.passages.rows) (left_in cycles) (filter has_left cycle.passages.rows)
 
 -- one more cycle, with these passages at its end
-module _ {arrivals : List Arrival} {first now : GuidedHardware} {moments : List Moment} (passes : History arrivals first moments now) (last : Moment)
+module _ {arrivals : List Arrival} {first now : GuidedHardware} {moments : List Moment}
+    (passes : History arrivals first moments now) (last : Moment)
     {rows : List Passage} (rows_are : rows ≡ (last_cycle still_open passes last).passages.rows) where
   -- those that left the hardware in it come first
-  pub left-push : left_after first.hardware (moments ++ last ∷ []) ≡ filter has_left rows ++ left_after first.hardware moments
+  pub left-push : left_after first.hardware (moments ++ last ∷ []) ≡ filter has_left rows
+      ++ left_after first.hardware moments
   left-push =
       ap left_in (walk-push still_open passes last)
       ∙ left_in-push (walk still_open first.hardware moments) (last_cycle still_open passes last)

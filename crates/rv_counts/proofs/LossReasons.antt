@@ -58,7 +58,8 @@ reason_is h f =
     let full : Bool = nat_le h.rob.capacity (length h.rob.entries) in
     let queued : Bool = is_store f.instruction && nat_le h.values.store_queue (length (stores_after h h.rob.entries)) in
     let kind : Option Kind = kind_of_word f.instruction in
-    let rest : Option Stall = cond (has_full_stations h kind) (Some stall.Station) (cond queued (Some stall.Store) None) in
+    let rest : Option Stall =
+    cond (has_full_stations h kind) (Some stall.Station) (cond queued (Some stall.Store) None) in
     by_test (has_serialising h.rob) stall.Serial (cond full (Some stall.Rob) rest) loss.Serial
     (cond full loss.Rob (loss_of_kind h.values h.rob kind)) refl
     (by_test full stall.Rob rest loss.Rob (loss_of_kind h.values h.rob kind) refl (by_kind h queued kind))
@@ -81,7 +82,8 @@ module _ (width : ℕ) where
       → Leads (After (suc k)) Ended (dispatch_unless o f fs d)
   by_reason k d f fs at count None is = omega (arith, count)
   by_reason k d f fs at count (Some s) (inl none) = absurd (cc)
-  by_reason k d f fs at count (Some s) (inr is) = inr (is ∙ sym (ap (λ words. Some (stall_for (first_loss d.hardware words))) at))
+  by_reason k d f fs at count (Some s) (inr is) =
+      inr (is ∙ sym (ap (λ words. Some (stall_for (first_loss d.hardware words))) at))
 
   turn_ends : (k : ℕ) (d : Dispatching) (fs : List Fetched) → d.hardware.front.entries ≡ fs → After k d →
       Leads (After (suc k)) Ended (dispatch_turn_of fs d)
@@ -116,7 +118,8 @@ module _ (arrivals : List Arrival) {old new : Hardware} {report : Report} (reach
       let same : loss_in old.cycle new.values new.rob new.front ≡ first_loss d.hardware d.hardware.front.entries =
       ap (λ (h : Hardware). loss_by old.cycle h.values h.rob (slice_get new.front.entries 0)) passed.others_stay
       ∙ ap (λ words. loss_by old.cycle d.hardware.values d.hardware.rob (slice_get words 0)) passed.fetches.entries
-      ∙ first_is old.cycle d.hardware d.hardware.front.entries passed.fetches.added passed.dispatches.basics.fetched passed.fetches.are_new in
+      ∙ first_is old.cycle d.hardware d.hardware.front.entries passed.fetches.added passed.dispatches.basics.fetched
+      passed.fetches.are_new in
       elim (phase_ends v.dispatch_width (sent_all lines old) described) [
         | inl wide ↦ absurd (omega (arith, wide, lost, width, passed.report_is.0))
         | inr is ↦ is ∙ ap (λ why. Some (stall_for why)) (sym same)

@@ -8,7 +8,8 @@ use Rattle.rv_counts.specs.Profile.{IsProfileOf}
 use Rattle.rv_counts.specs.declared.{counts.WordCounts.WordCounts, loads.LoadCosts.LoadCosts}
 
 -- addresses above a word's are none of the lower ones
-above_is_higher : (low address : ℕ) (words : List WordCounts) → AreAbove low words → HasAddress address words → low < address
+above_is_higher : (low address : ℕ) (words : List WordCounts) → AreAbove low words → HasAddress address words →
+    low < address
 above_is_higher low address [] above none = absurd none
 above_is_higher low address (word ∷ words) above (inl same) = omega (arith, above.0, same)
 above_is_higher low address (word ∷ words) above (inr further) = above_is_higher low address words above.1 further
@@ -22,8 +23,10 @@ module _ (at : ℕ → WordCounts) where
   AreIn words others = Each (λ word. HasAddress word.address others) words
 
   -- the first address of both is the same
-  first_once : (word other : WordCounts) (words others : List WordCounts) → AreAbove word.address words → AreAbove other.address others
-      → HasAddress word.address (other ∷ others) → HasAddress other.address (word ∷ words) → word.address ≡ other.address
+  first_once : (word other : WordCounts) (words others : List WordCounts) → AreAbove word.address words →
+      AreAbove other.address others
+      → HasAddress word.address (other ∷ others) → HasAddress other.address (word ∷ words) →
+      word.address ≡ other.address
   first_once word other words others above above' (inl same) there = sym same
   first_once word other words others above above' (inr further) (inl same) = same
   first_once word other words others above above' (inr further) (inr further') =
@@ -60,11 +63,14 @@ module _ (at : ℕ → WordCounts) where
       λ i. first i ∷ rest i
 
 -- what is seen is there in each list that has all that is seen
-all_in : (at : ℕ → WordCounts) (words others : List WordCounts) → AreAt at words → Each (λ word. 0 < times_of word) words
+all_in : (at : ℕ → WordCounts) (words others : List WordCounts) → AreAt at words →
+    Each (λ word. 0 < times_of word) words
     → ((address : ℕ) → 0 < times_of (at address) → HasAddress address others) → AreIn at words others
 all_in at [] others here seen all = tt
-all_in at (word ∷ words) others here seen all =
-    (all word.address (subst (λ (w : WordCounts). 0 < times_of w) here.0 seen.0), all_in at words others here.1 seen.1 all)
+all_in at (word ∷ words) others here seen all = (
+  all word.address (subst (λ (w : WordCounts). 0 < times_of w) here.0 seen.0),
+  all_in at words others here.1 seen.1 all,
+)
 
 -- two profiles of the same passages and heads are the same
 pub counted_once : {costs : LoadCosts} {passages : List Passage} {heads : List ℕ} (words others : List WordCounts) →

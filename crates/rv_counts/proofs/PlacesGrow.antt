@@ -41,14 +41,17 @@ more_places c p = omega (arith, more_squashed c.flush c.squashed p.squashed, mor
 
 places_from-push : {arrivals : List Arrival} {old now : GuidedHardware} {moments : List Moment} (p : Places)
     (moment : Moment) → History arrivals old moments now
-    → places_from p old.hardware (moments ++ moment ∷ []) ≡ with_cycle (places_in now.hardware moment) (places_from p old.hardware moments)
+    → places_from p old.hardware (moments ++ moment ∷ [])
+    ≡ with_cycle (places_in now.hardware moment) (places_from p old.hardware moments)
 places_from-push p moment ended = refl
 places_from-push {old = old} p moment (cycled {moment = first} cycle rest) =
     places_from-push (with_cycle (places_in old.hardware first) p) moment rest
 
 -- one more cycle
-pub places_of-push : {arrivals : List Arrival} {old now : GuidedHardware} {moments : List Moment} (moment : Moment) → History arrivals old moments now
-    → places_of old.hardware (moments ++ moment ∷ []) ≡ with_cycle (places_in now.hardware moment) (places_of old.hardware moments)
+pub places_of-push : {arrivals : List Arrival} {old now : GuidedHardware} {moments : List Moment} (moment : Moment) →
+    History arrivals old moments now
+    → places_of old.hardware (moments ++ moment ∷ [])
+    ≡ with_cycle (places_in now.hardware moment) (places_of old.hardware moments)
 places_of-push moment passes = places_from-push no_places moment passes
 
 -- no cycle has no place
@@ -56,14 +59,17 @@ pub add_up_nothing : (h : Hardware) → AddUp h [] h
 add_up_nothing h = omega arith
 
 -- one more cycle, whose places add up
-pub add_up-push : {arrivals : List Arrival} {old now : GuidedHardware} {moments : List Moment} (moment : Moment) → History arrivals old moments now
+pub add_up-push : {arrivals : List Arrival} {old now : GuidedHardware} {moments : List Moment} (moment : Moment) →
+    History arrivals old moments now
     → ArePlaced now.hardware moment.report moment.after → AddUp old.hardware moments now.hardware →
     AddUp old.hardware (moments ++ moment ∷ []) moment.after
 add_up-push {old = old} {now = now} {moments = moments} moment passes placed add_up =
     let width : ℕ = now.hardware.values.dispatch_width in
     let same : moment.after.values.dispatch_width ≡ width = ap (λ (v : Values). v.dispatch_width) placed.values in
-    let all : all_places (places_of old.hardware (moments ++ moment ∷ [])) ≡ all_places (places_of old.hardware moments) + cycle_total (places_in now.hardware moment) =
-    ap all_places (places_of-push moment passes) ∙ more_places (places_in now.hardware moment) (places_of old.hardware moments) in
+    let all : all_places (places_of old.hardware (moments ++ moment ∷ [])) ≡ all_places (places_of old.hardware moments)
+    + cycle_total (places_in now.hardware moment) =
+    ap all_places (places_of-push moment passes)
+    ∙ more_places (places_in now.hardware moment) (places_of old.hardware moments) in
     let one_more : length (moments ++ moment ∷ []) ≡ length moments + 1 = length-append moments (moment ∷ []) in
     let times : length (moments ++ moment ∷ []) * moment.after.values.dispatch_width ≡ length moments * width + width =
     (λ i. one_more i * same i) ∙ add-mul (length moments) 1 width ∙ omega arith in
@@ -81,9 +87,11 @@ module _ {old new : Hardware} {report : Report} (placed : ArePlaced old report n
     (steps : List Step) (number : cycle ≡ old.cycle) (in_flight : before ≡ length old.rob.entries)
     (steps_are : steps ≡ report.steps) where
   -- what is counted of a cycle that is shown are its places
-  pub places_seen : places_by new.values cycle before steps new.rob new.front ≡ places_in old (record { report = report; after = new })
+  pub places_seen : places_by new.values cycle before steps new.rob new.front
+      ≡ places_in old (record { report = report; after = new })
   places_seen =
-      let dispatched : dispatched_in cycle new.rob ≡ report.dispatched = ap (λ n. dispatched_in n new.rob) number ∙ placed.dispatched in
+      let dispatched : dispatched_in cycle new.rob ≡ report.dispatched = ap (λ n. dispatched_in n new.rob) number
+      ∙ placed.dispatched in
       λ i. cycle_places new.values (number i) (in_flight i) (steps_are i) (dispatched i) new.rob new.front
 
   -- they are few

@@ -57,10 +57,12 @@ module _ (now : ℕ) where
   }
   turn_there d _ _ there = record { cycle = there.cycle; counted = there.counted }
 
-  there_after : (h : Hardware) → h.cycle ≡ now → count_by (λ (e : Entry). e.dispatched == now) h.rob.entries ≡ 0 → AreThere (dispatch h)
+  there_after : (h : Hardware) → h.cycle ≡ now → count_by (λ (e : Entry). e.dispatched == now) h.rob.entries ≡ 0 →
+      AreThere (dispatch h)
   there_after h cycle none =
       kept_by_turns AreThere dispatch_turn (λ d there. turn_there d (dispatch_turn d) (dispatch_turn_is d) there)
-      h.values.dispatch_width (record { hardware = h; dispatched = 0; waits_for = None }) (record { cycle = cycle; counted = none })
+      h.values.dispatch_width (record { hardware = h; dispatched = 0; waits_for = None })
+      (record { cycle = cycle; counted = none })
 
 -- ---- what leaves the reorder buffer in the commit phase was in it
 module _ (all : ℕ) where
@@ -86,9 +88,19 @@ module _ (all : ℕ) where
   turn_takes c _ (executes e es written next head serial) few =
       omega (arith, few, ap length head.place, one_taken c.steps (row_of e written c.hardware.cycle) (omega arith))
   turn_takes c _ (serial_faults e es cause value head serial) few =
-      omega (arith, few, ap length head.place, one_taken c.steps (step.Trap e.pc cause value c.hardware.cycle) (omega arith))
+      omega (
+        arith,
+        few,
+        ap length head.place,
+        one_taken c.steps (step.Trap e.pc cause value c.hardware.cycle) (omega arith),
+      )
   turn_takes c _ (traps e es issue cycle message fault head plain at is) few =
-      omega (arith, few, ap length head.place, one_taken c.steps (step.Trap e.pc fault.cause fault.value c.hardware.cycle) (omega arith))
+      omega (
+        arith,
+        few,
+        ap length head.place,
+        one_taken c.steps (step.Trap e.pc fault.cause fault.value c.hardware.cycle) (omega arith),
+      )
   turn_takes c _ (retires e es issue cycle message head plain at none) few =
       omega (
         arith,
@@ -100,13 +112,20 @@ module _ (all : ℕ) where
             (row_of e (written_of e message) c.hardware.cycle) (omega arith),
       )
   turn_takes c _ (retires_last e es issue cycle message head plain at none) few =
-      omega (arith, few, ap length head.place, one_taken c.steps (row_of e (written_of e message) c.hardware.cycle) (omega arith))
+      omega (
+        arith,
+        few,
+        ap length head.place,
+        one_taken c.steps (row_of e (written_of e message) c.hardware.cycle) (omega arith),
+      )
   turn_takes c _ _ few = few
 
-  unless_takes : (code : Option ℕ) (h : Hardware) → length h.rob.entries ≤ all → AreTaken (commit_unless set.contains code h)
+  unless_takes : (code : Option ℕ) (h : Hardware) → length h.rob.entries ≤ all →
+      AreTaken (commit_unless set.contains code h)
   unless_takes (Some code) h few = omega arith
   unless_takes None h few =
-      kept_by_turns AreTaken (commit_turn set.contains) (λ c is. turn_takes c (commit_turn set.contains c) (commit_turn_is set.contains c) is)
+      kept_by_turns AreTaken (commit_turn set.contains)
+      (λ c is. turn_takes c (commit_turn set.contains c) (commit_turn_is set.contains c) is)
       h.values.commit_width (record { hardware = h; steps = []; stop = None }) (omega (arith, few))
 
 -- ---- up to the dispatch phase no instruction enters it
@@ -134,16 +153,29 @@ module _ (most : ℕ) where
   few_at_broadcast : IsKeptByBroadcast AreFew
   few_at_broadcast = record {
     broadcasts = λ h older younger e message few split run.
-        omega (arith, few, ap length split, length-append older (e ∷ younger), length-append older (finished message h.cycle e ∷ younger));
+        omega (
+          arith,
+          few,
+          ap length split,
+          length-append older (e ∷ younger),
+          length-append older (finished message h.cycle e ∷ younger),
+        );
     mends = λ h older younger e next few split.
-        omega (arith, few, ap length split, length-append older (e ∷ younger), length-append older (predicting next e ∷ []));
+        omega (
+          arith,
+          few,
+          ap length split,
+          length-append older (e ∷ younger),
+          length-append older (predicting next e ∷ []),
+        );
   }
 
   abbrev AreFewMore : Dispatching → Type 0
   AreFewMore d = length d.hardware.rob.entries ≤ most + d.dispatched
 
   turn_adds : (d : Dispatching) (t : Turn Dispatching) → DispatchTurn d t → AreFewMore d → Leaves AreFewMore t
-  turn_adds d _ (dispatches f fs at nothing) few = omega (arith, few, length-append d.hardware.rob.entries (entry_of_fetched d.hardware f ∷ []))
+  turn_adds d _ (dispatches f fs at nothing) few =
+      omega (arith, few, length-append d.hardware.rob.entries (entry_of_fetched d.hardware f ∷ []))
   turn_adds d _ _ few = few
 
   few_after : (h : Hardware) → AreFew h → AreFewMore (dispatch h)
@@ -160,7 +192,8 @@ pub record ArePlaced (old : Hardware) (report : Report) (new : Hardware) : Type 
   pub add_up : cycle_total (places_in old (record { report = report; after = new })) + length new.rob.entries
       ≡ new.values.dispatch_width + length old.rob.entries
 
-module _ {lines : Lines} {old new : Hardware} {report : Report} (reached : Reachable old) (cycle : IsCycle any_prediction lines old report new) where
+module _ {lines : Lines} {old new : Hardware} {report : Report} (reached : Reachable old)
+    (cycle : IsCycle any_prediction lines old report new) where
   -- each cycle of hardware that a reset and cycles lead to is so
   pub placed : ArePlaced old report new
   placed =
@@ -173,22 +206,30 @@ module _ {lines : Lines} {old new : Hardware} {report : Report} (reached : Reach
       let none = count-none (λ (e : Entry). e.dispatched == now) sent.rob.entries
       (Each-weaker (SoundEntry v now (now + 1) (now + 1)) (λ e. (e.dispatched == now) ≡ false)
       (λ e w. ne_eqb e.dispatched now (omega (arith, w.by_now))) sent.rob.entries passed.sends.basics.entries) in
-      let none_by : count_by (λ (e : Entry). e.dispatched == now) sent.rob.entries ≡ 0 = sym (count-count_by (λ (e : Entry). e.dispatched == now) sent.rob.entries) ∙ none in
+      let none_by : count_by (λ (e : Entry). e.dispatched == now) sent.rob.entries ≡ 0 =
+      sym (count-count_by (λ (e : Entry). e.dispatched == now) sent.rob.entries) ∙ none in
       let there = there_after now sent passed.sends.basics.cycle none_by in
-      let entries : new.rob.entries ≡ d.hardware.rob.entries = ap (λ (h : Hardware). h.rob.entries) passed.others_stay in
+      let entries : new.rob.entries ≡ d.hardware.rob.entries =
+      ap (λ (h : Hardware). h.rob.entries) passed.others_stay in
       let described : sent.values ≡ v = passed.sends.basics.always.sizes.values in
-      let wide = dispatch_within now v.dispatch_width sent (ap (λ (w : Values). w.dispatch_width) described) (omega (arith, none)) in
+      let wide = dispatch_within now v.dispatch_width sent (ap (λ (w : Values). w.dispatch_width) described)
+      (omega (arith, none)) in
       let counted = count-count_by (λ (e : Entry). e.dispatched == now) d.hardware.rob.entries in
       let new_described : new.values ≡ v = passed.ends.always.sizes.values in
       let width : new.values.dispatch_width ≡ v.dispatch_width = ap (λ (w : Values). w.dispatch_width) new_described in
-      let within : report.dispatched ≤ new.values.dispatch_width = omega (arith, passed.report_is.0, there.counted, wide, counted, width) in
+      let within : report.dispatched ≤ new.values.dispatch_width =
+      omega (arith, passed.report_is.0, there.counted, wide, counted, width) in
       let takes : taken 0 report.steps + length (committing lines old).hardware.rob.entries ≤ length old.rob.entries =
-      subst (λ steps. taken 0 steps + length (committing lines old).hardware.rob.entries ≤ length old.rob.entries) (sym passed.steps)
+      subst (λ steps. taken 0 steps + length (committing lines old).hardware.rob.entries
+      ≤ length old.rob.entries) (sym passed.steps)
       (unless_takes (length old.rob.entries) (due old.csrs lines) (with_lines lines old) (omega arith)) in
       let most : ℕ = length (committing lines old).hardware.rob.entries in
-      let few = few_after most sent (broadcast-keeps (few_at_broadcast most) (issued_all lines old) (issue-keeps (AreFew most) (few_at_issue most) (drained lines old) (drain-keeps (few_at_drain most) (committing lines old).hardware (omega arith)))) in
+      let few = few_after most sent (broadcast-keeps (few_at_broadcast most) (issued_all lines old)
+      (issue-keeps (AreFew most) (few_at_issue most) (drained lines old)
+      (drain-keeps (few_at_drain most) (committing lines old).hardware (omega arith)))) in
       record {
-        dispatched = ap (λ es. count_by (λ (e : Entry). e.dispatched == now) es) entries ∙ there.counted ∙ sym passed.report_is.0;
+        dispatched = ap (λ es. count_by (λ (e : Entry). e.dispatched == now) es) entries ∙ there.counted
+            ∙ sym passed.report_is.0;
         within = within;
         values = new_described ∙ sym passed.begins.always.sizes.values;
         wide = omega (arith, width, passed.ends.always.sizes.legal.pipeline.dispatch_width.1);

@@ -14,7 +14,8 @@ use Rattle.rv_counts.proofs.Changes.{counted-change, each-change, has-change, ha
 use Rattle.rv_counts.proofs.CountsMore.{counts_at-head, counts_at-here, counts_at-none}
 use Rattle.rv_counts.proofs.CountsMore.{counts_at-other, counts_at-other_head}
 
-ended-address : (e : Ending) (costs : LoadCosts) (p : Passage) (w : WordCounts) → (with_ended e costs p w).address ≡ w.address
+ended-address : (e : Ending) (costs : LoadCosts) (p : Passage) (w : WordCounts) →
+    (with_ended e costs p w).address ≡ w.address
 ended-address (ending.Retired order cycle written next) costs p w = refl
 ended-address (ending.Squashed cycle) costs p w = refl
 ended-address (ending.Trapped cycle cause) costs p w = refl
@@ -24,7 +25,8 @@ ended-address ending.InFlight costs p w = refl
 pub added-address : (costs : LoadCosts) (p : Passage) (w : WordCounts) → (added costs p w).address ≡ w.address
 added-address costs p w = ended-address p.ending costs p (record w { fetched = w.fetched + 1 })
 
-ended-times : (e : Ending) (costs : LoadCosts) (p : Passage) (w : WordCounts) → times_of (with_ended e costs p w) ≡ times_of w
+ended-times : (e : Ending) (costs : LoadCosts) (p : Passage) (w : WordCounts) →
+    times_of (with_ended e costs p w) ≡ times_of w
 ended-times (ending.Retired order cycle written next) costs p w = refl
 ended-times (ending.Squashed cycle) costs p w = refl
 ended-times (ending.Trapped cycle cause) costs p w = refl
@@ -35,24 +37,34 @@ added-some costs p w = omega (arith, ended-times p.ending costs p (record w { fe
 
 -- no counts of nothing
 pub profile-nothing : (costs : LoadCosts) → IsProfileOf costs [] [] []
-profile-nothing costs = record { in_order = tt; counted = tt; seen = tt; all = λ address some. absurd (omega (arith, some)) }
+profile-nothing costs = record {
+  in_order = tt;
+  counted = tt;
+  seen = tt;
+  all = λ address some. absurd (omega (arith, some));
+}
 
 -- a change of the counts at one address, by what changes there alone
 module _ (address : ℕ) (change : WordCounts → WordCounts) (keeps : (w : WordCounts) → (change w).address ≡ w.address)
     (counts : (w : WordCounts) → 0 < times_of (change w))
     {costs : LoadCosts} {passages passages' : List Passage} {heads heads' : List ℕ}
-    (others : (other : ℕ) → (other ≡ address → ⊥) → counts_at costs passages' heads' other ≡ counts_at costs passages heads other)
+    (others : (other : ℕ) → (other ≡ address → ⊥) → counts_at costs passages' heads' other
+    ≡ counts_at costs passages heads other)
     (here : change (counts_at costs passages heads address) ≡ counts_at costs passages' heads' address) where
   pub profile-change : (words : List WordCounts) → IsProfileOf costs passages heads words →
       IsProfileOf costs passages' heads' (with_change address change words)
   profile-change words is = record {
     in_order = in_order-change address change keeps words is.in_order;
-    counted = counted-change address change (counts_at costs passages heads) (counts_at costs passages' heads') others here
+    counted = counted-change address change (counts_at costs passages heads)
+        (counts_at costs passages' heads') others here
         (counts_at-none costs passages heads address) (λ other. refl) words is.in_order is.counted (is.all address);
     seen = each-change address change (λ w. 0 < times_of w) (λ w some. counts w) (counts _) words is.seen;
     all = λ other some. elim (cases_Bool (other == address)) [
-      | inl same ↦ subst (λ (a : ℕ). HasAddress a (with_change address change words)) (sym (eqb-true other address same)) (has-change address change keeps words)
-      | inr different ↦ has-kept address change keeps other words (is.all other (subst (λ (w : WordCounts). 0 < times_of w) (others other (eqb-false other address different)) some))
+      | inl same ↦ subst (λ (a : ℕ). HasAddress a (with_change address change words))
+          (sym (eqb-true other address same)) (has-change address change keeps words)
+      | inr different ↦ has-kept address change keeps other words
+          (is.all other (subst (λ (w : WordCounts). 0 < times_of w)
+          (others other (eqb-false other address different)) some))
     ];
   }
 
@@ -71,7 +83,8 @@ pub profile-passages : (costs : LoadCosts) (ps passages : List Passage) (heads :
     → IsProfileOf costs (ps ++ passages) heads (with_passages costs ps words)
 profile-passages costs [] passages heads words is = is
 profile-passages costs (p ∷ ps) passages heads words is =
-    profile-passage costs p (ps ++ passages) heads (with_passages costs ps words) (profile-passages costs ps passages heads words is)
+    profile-passage costs p (ps ++ passages) heads (with_passages costs ps words)
+    (profile-passages costs ps passages heads words is)
 
 -- one more cycle that left something at the head, or nothing
 pub profile-head : (costs : LoadCosts) (head : Option ℕ) (passages : List Passage) (heads : List ℕ)

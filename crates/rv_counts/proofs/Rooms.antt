@@ -124,27 +124,33 @@ module _ (most : ℕ) where
       → Each (IsWithin (most + 1)) (with_change address change words)
   change-within address change grows [] each = (grows _ (nothing-within address), tt)
   change-within address change grows (w ∷ ws) each =
-      let same : Each (IsWithin (most + 1)) (w ∷ ws) = each-by (w ∷ ws) (λ v is. within-more (most + 1) v (omega arith) is) each in
+      let same : Each (IsWithin (most + 1)) (w ∷ ws) =
+      each-by (w ∷ ws) (λ v is. within-more (most + 1) v (omega arith) is) each in
       by_place address change (λ words. Each (IsWithin (most + 1)) words) w ws
       (λ here. (grows w each.0, same.1)) (λ above. (grows _ (nothing-within address), same))
       (λ below. (same.0, change-within address change grows ws each.1))
 
-pub added-grows : (costs : LoadCosts) (p : Passage) (most : ℕ) (w : WordCounts) → IsWithin most w → IsWithin (most + 1) (added costs p w)
+pub added-grows : (costs : LoadCosts) (p : Passage) (most : ℕ) (w : WordCounts) → IsWithin most w →
+    IsWithin (most + 1) (added costs p w)
 added-grows costs p most w is = ended-within most p.ending costs p w is
 
 pub head-grows : (most : ℕ) (w : WordCounts) → IsWithin most w → IsWithin (most + 1) (once_more_at_head w)
 head-grows most w is = head-within most w is
 
 -- what can count some more can count fewer more
-pub can_count-fewer : (words : List WordCounts) (more fewer : ℕ) → fewer ≤ more → CanCountMore words more → CanCountMore words fewer
-can_count-fewer words more fewer under can = record { most = can.most; counts = can.counts; countable = omega (arith, can.countable, under) }
+pub can_count-fewer : (words : List WordCounts) (more fewer : ℕ) → fewer ≤ more → CanCountMore words more →
+    CanCountMore words fewer
+can_count-fewer words more fewer under can =
+    record { most = can.most; counts = can.counts; countable = omega (arith, can.countable, under) }
 
 -- any of them can count one more
 pub can_count-each : (words : List WordCounts) → CanCountMore words 1 → Each CanCount words
-can_count-each words can = each-by words (λ w is. within-more can.most (2 ^ 50 - 2) w (omega (arith, can.countable)) is) can.counts
+can_count-each words can =
+    each-by words (λ w is. within-more can.most (2 ^ 50 - 2) w (omega (arith, can.countable)) is) can.counts
 
 -- so can those among which there are some of an address then
-pub can_count-begun : (address : ℕ) (old new : List WordCounts) → new ≡ with_change address (λ w. w) old → CanCountMore old 1 → Each CanCount new
+pub can_count-begun : (address : ℕ) (old new : List WordCounts) → new ≡ with_change address (λ w. w) old →
+    CanCountMore old 1 → Each CanCount new
 can_count-begun address old new begun can =
     subst (λ (words : List WordCounts). Each CanCount words) (sym begun)
     (each-change address (λ w. w) CanCount (λ w is. is) (nothing-within (2 ^ 50 - 2) address) old
@@ -161,10 +167,13 @@ pub within-passages : (costs : LoadCosts) (ps : List Passage) (most : ℕ) (word
     Each (IsWithin most) words → Each (IsWithin (most + length ps)) (with_passages costs ps words)
 within-passages costs [] most words each = each-by words (λ w is. within-more most (most + 0) w (omega arith) is) each
 within-passages costs (p ∷ ps) most words each =
-    let now = change-within (most + length ps) p.pc (added costs p) (added-grows costs p (most + length ps)) (with_passages costs ps words) (within-passages costs ps most words each) in
-    each-by (with_passages costs (p ∷ ps) words) (λ w is. within-more (most + length ps + 1) (most + length (p ∷ ps)) w (omega arith) is) now
+    let now = change-within (most + length ps) p.pc (added costs p) (added-grows costs p (most + length ps))
+    (with_passages costs ps words) (within-passages costs ps most words each) in
+    each-by (with_passages costs (p ∷ ps) words) (λ w is. within-more (most + length ps + 1) (most + length (p ∷ ps))
+    w (omega arith) is) now
 
-can_count-head : (head : Option ℕ) (words : List WordCounts) (more : ℕ) → CanCountMore words (more + 1) → CanCountMore (with_head head words) more
+can_count-head : (head : Option ℕ) (words : List WordCounts) (more : ℕ) → CanCountMore words (more + 1) →
+    CanCountMore (with_head head words) more
 can_count-head head words more can =
     record {
       most = can.most + 1;
@@ -175,7 +184,11 @@ can_count-head head words more can =
 can_count-passages : (costs : LoadCosts) (ps : List Passage) (words : List WordCounts) (more : ℕ) →
     CanCountMore words (length ps + more) → CanCountMore (with_passages costs ps words) more
 can_count-passages costs ps words more can =
-    record { most = can.most + length ps; counts = within-passages costs ps can.most words can.counts; countable = omega (arith, can.countable) }
+    record {
+      most = can.most + length ps;
+      counts = within-passages costs ps can.most words can.counts;
+      countable = omega (arith, can.countable);
+    }
 
 pub length-head : (head : Option ℕ) (words : List WordCounts) → length (with_head head words) ≤ length words + 1
 length-head None words = omega arith

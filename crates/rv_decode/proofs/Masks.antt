@@ -16,7 +16,8 @@ and_funct3 word =
     ∙ omega (arith, and_numeral (word / 4096) 6 refl, and_numeral (word % 4096) 126 refl)
 
 -- under the mask 0xfe00707f a word has funct7, funct3 and the opcode, each at its place
-pub and_funct7 : (word : ℕ) → word < 2 ^ 32 → bit_and word 0xfe00707f ≡ funct7 word * 2 ^ 25 + funct3 word * 2 ^ 12 + opcode word
+pub and_funct7 : (word : ℕ) → word < 2 ^ 32 → bit_and word 0xfe00707f ≡ funct7 word * 2 ^ 25 + funct3 word
+    * 2 ^ 12 + opcode word
 and_funct7 word small =
     let parts : word ≡ word / 33554432 * 33554432 + word % 33554432 = omega arith in
     ap (λ (w : ℕ). bit_and w 0xfe00707f) parts
@@ -28,14 +29,17 @@ pub and_word : (word : ℕ) → word < 2 ^ 32 → bit_and word 0xffffffff ≡ wo
 and_word word small = and_numeral word 4294967294 refl ∙ omega arith
 
 -- a shift to the left that drops the bits above a field, and one to the right that drops those below it
-between : (word above size below : ℕ) → word * 2 ^ above % 2 ^ (size + below + above) / 2 ^ (above + below) ≡ word / 2 ^ below % 2 ^ size
+between : (word above size below : ℕ) → word * 2 ^ above % 2 ^ (size + below + above) / 2 ^ (above + below)
+    ≡ word / 2 ^ below % 2 ^ size
 between word above size below =
     sym (shr-shr (word * 2 ^ above % 2 ^ (size + below + above)) above below)
-    ∙ ap (λ (x : ℕ). x / 2 ^ below) (field_of (word * 2 ^ above) (size + below) above ∙ ap (λ (x : ℕ). x % 2 ^ (size + below)) (shl-shr word above))
+    ∙ ap (λ (x : ℕ). x / 2 ^ below) (field_of (word * 2 ^ above) (size + below) above
+    ∙ ap (λ (x : ℕ). x % 2 ^ (size + below)) (shl-shr word above))
     ∙ field_of word size below
 
 -- a shift to the left within 32 bits, then one to the right, gives the bits from high down to low
-pub bits-by_shifts : (word high low : ℕ) → low ≤ high → high < 32 → word * 2 ^ (31 - high) % 4294967296 / 2 ^ (31 - high + low) ≡ bits word high low
+pub bits-by_shifts : (word high low : ℕ) → low ≤ high → high < 32 →
+    word * 2 ^ (31 - high) % 4294967296 / 2 ^ (31 - high + low) ≡ bits word high low
 bits-by_shifts word high low order in_word =
     let all : high + 1 - low + low + (31 - high) ≡ 32 = omega arith in
     rw all at (between word (31 - high) (high + 1 - low) low)

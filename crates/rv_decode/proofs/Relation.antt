@@ -28,10 +28,12 @@ first_fit-row (row ∷ rows) word instruction made =
     ]
 
 -- the instruction that the function gives is one that the word decodes to
-pub Decodes-instruction_of : (word : ℕ) (instruction : Instr) → instruction_of word ≡ Some instruction → Decodes word instruction
+pub Decodes-instruction_of : (word : ℕ) (instruction : Instr) → instruction_of word ≡ Some instruction →
+    Decodes word instruction
 unfolding instruction_of
 Decodes-instruction_of word instruction is =
-    let made = first_fit-row table word instruction is in record { row = made.0; listed = made.1; fits = made.2; makes = made.3 }
+    let made = first_fit-row table word instruction is in
+    record { row = made.0; listed = made.1; fits = made.2; makes = made.3 }
 
 -- two rows do not agree in the bits that both fix
 abbrev differ : Row → Row → Bool
@@ -46,10 +48,12 @@ are_apart (row ∷ rows) = list_all (differ row) rows && are_apart rows
 not_both : (word : ℕ) (row other : Row) → differ row other ≡ true → ¬ (Fits word row × Fits word other)
 not_both word row other apart both =
     eqb-false (bit_and row.fixed other.mask) (bit_and other.fixed row.mask) (not-true _ apart)
-    (ap (λ (x : ℕ). bit_and x other.mask) (sym both.0) ∙ and_assoc other.mask word row.mask ∙ ap (bit_and word) (and_comm row.mask other.mask)
+    (ap (λ (x : ℕ). bit_and x other.mask) (sym both.0) ∙ and_assoc other.mask word row.mask
+    ∙ ap (bit_and word) (and_comm row.mask other.mask)
     ∙ sym (and_assoc row.mask word other.mask) ∙ ap (λ (x : ℕ). bit_and x row.mask) both.1)
 
-one_row : (word : ℕ) (rows : List Row) → are_apart rows ≡ true → AllPairs (λ row other. ¬ (Fits word row × Fits word other)) rows
+one_row : (word : ℕ) (rows : List Row) → are_apart rows ≡ true →
+    AllPairs (λ row other. ¬ (Fits word row × Fits word other)) rows
 one_row word [] apart = λ i j d below within. absurd (omega arith)
 one_row word (row ∷ rows) apart =
     let parts = and_parts (list_all (differ row) rows) (are_apart rows) apart in
@@ -68,17 +72,22 @@ first_fit-made : (rows : List Row) (word : ℕ) (row : Row) → are_apart rows �
     first_fit rows word ≡ Some (row.instruction word)
 first_fit-made [] word row apart (k, within, is) fits = absurd (omega arith)
 first_fit-made (first ∷ rows) word row apart (zero, within, is) fits =
-    let passes : (bit_and word first.mask == first.fixed) ≡ true = eq-eqb (bit_and word first.mask) first.fixed (rw is fits) in
+    let passes : (bit_and word first.mask == first.fixed) ≡ true =
+    eq-eqb (bit_and word first.mask) first.fixed (rw is fits) in
     rw passes (ap (λ (r : Row). Some (r.instruction word)) is)
 first_fit-made (first ∷ rows) word row apart (suc k, within, is) fits =
     let parts = and_parts (list_all (differ first) rows) (are_apart rows) apart in
     let later : Contains rows row = (k, omega arith, is) in
-    let differs : differ first row ≡ true = All-contains (λ other. differ first other ≡ true) rows row (AllPass-from_list_all (differ first) rows parts.0) later in
-    let fails : (bit_and word first.mask == first.fixed) ≡ false = ne_eqb (bit_and word first.mask) first.fixed (λ fits_first. not_both word first row differs (fits_first, fits)) in
+    let differs : differ first row ≡ true = All-contains (λ other. differ first other ≡ true) rows row
+    (AllPass-from_list_all (differ first) rows parts.0) later in
+    let fails : (bit_and word first.mask == first.fixed) ≡ false =
+    ne_eqb (bit_and word first.mask) first.fixed
+    (λ fits_first. not_both word first row differs (fits_first, fits)) in
     rw fails (first_fit-made rows word row parts.1 later fits)
 
 -- an instruction that the word decodes to is the one that the function gives
-pub instruction_of-Decodes : (word : ℕ) (instruction : Instr) → Decodes word instruction → instruction_of word ≡ Some instruction
+pub instruction_of-Decodes : (word : ℕ) (instruction : Instr) → Decodes word instruction →
+    instruction_of word ≡ Some instruction
 unfolding instruction_of table
 instruction_of-Decodes word instruction decodes =
     first_fit-made table word decodes.row refl decodes.listed decodes.fits ∙ ap Some decodes.makes
@@ -89,7 +98,9 @@ none_fits [] word none = All-nil (λ row. ¬ Fits word row)
 none_fits (row ∷ rows) word none =
     elim (cases_Bool (bit_and word row.mask == row.fixed)) [
       | inl passes ↦ (let found : first_fit (row ∷ rows) word ≡ Some (row.instruction word) = rw passes refl in cc)
-      | inr fails ↦ All-cons (λ row. ¬ Fits word row) row rows (eqb-false (bit_and word row.mask) row.fixed fails) (none_fits rows word (let skipped : first_fit (row ∷ rows) word ≡ first_fit rows word = rw fails refl in sym skipped ∙ none))
+      | inr fails ↦ All-cons (λ row. ¬ Fits word row) row rows (eqb-false (bit_and word row.mask) row.fixed fails)
+          (none_fits rows word (let skipped : first_fit (row ∷ rows) word ≡ first_fit rows word = rw fails refl in
+          sym skipped ∙ none))
     ]
 
 -- a word for which the function gives no instruction is illegal

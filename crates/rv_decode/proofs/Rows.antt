@@ -13,7 +13,8 @@ use Rattle.rv_decode.proofs.Masks.{and_opcode, and_funct3, and_funct7, and_word}
 -- the row fixes the opcode, the opcode and funct3, these and funct7, or the whole word
 abbrev is_plain : Row → Bool
 is_plain row =
-    ((row.mask == 0x7f) && (row.fixed == opcode row.fixed)) || ((row.mask == 0x707f) && (row.fixed == funct3 row.fixed * 2 ^ 12 + opcode row.fixed))
+    ((row.mask == 0x7f) && (row.fixed == opcode row.fixed)) ||
+    ((row.mask == 0x707f) && (row.fixed == funct3 row.fixed * 2 ^ 12 + opcode row.fixed))
     || ((row.mask == 0xfe00707f)
     && (row.fixed == funct7 row.fixed * 2 ^ 25 + funct3 row.fixed * 2 ^ 12 + opcode row.fixed))
     || (row.mask == 0xffffffff)
@@ -31,10 +32,14 @@ by_rows-first_fit : (word : ℕ) → word < 2 ^ 32 → (rows : List Row) → lis
 by_rows-first_fit word small [] plain = refl
 by_rows-first_fit word small (row ∷ rows) plain =
     let parts = and_parts (is_plain row) (list_all is_plain rows) plain in
-    rw (fits-has_fields word row.mask row.fixed row.instruction small parts.0, by_rows-first_fit word small rows parts.1) refl
+    rw (
+      fits-has_fields word row.mask row.fixed row.instruction small parts.0,
+      by_rows-first_fit word small rows parts.1,
+    ) refl
 
 -- a word of 32 bits is what the first row with its fields makes of it
-pub instruction_of-by_rows : (word : ℕ) → word < 2 ^ 32 → instruction_of word ≡ by_rows table word (opcode word) (funct3 word) (funct7 word)
+pub instruction_of-by_rows : (word : ℕ) → word < 2 ^ 32 →
+    instruction_of word ≡ by_rows table word (opcode word) (funct3 word) (funct7 word)
 unfolding instruction_of table
 instruction_of-by_rows word small = by_rows-first_fit word small table refl
 
@@ -45,7 +50,9 @@ by_rows-other word code third seventh [] other = refl
 by_rows-other word code third seventh (row ∷ rows) other = grind (arith, by_rows-other word code third seventh rows)
 
 -- a word whose opcode no row has is no instruction
-pub instruction_of-other : (word : ℕ) → word < 2 ^ 32 → list_any (λ row. opcode row.fixed == opcode word) table ≡ false → instruction_of word ≡ None
-instruction_of-other word small other = instruction_of-by_rows word small ∙ by_rows-other word (opcode word) (funct3 word) (funct7 word) table other
+pub instruction_of-other : (word : ℕ) → word < 2 ^ 32 → list_any (λ row. opcode row.fixed == opcode word) table
+    ≡ false → instruction_of word ≡ None
+instruction_of-other word small other = instruction_of-by_rows word small
+    ∙ by_rows-other word (opcode word) (funct3 word) (funct7 word) table other
 
 pub ruleset rows = (instruction_of-by_rows)

@@ -17,8 +17,10 @@ no_value (Some cycle) (Some line) (Some level) fault first second third = first
 
 -- where no field has the fault, the entry is not read with it
 pub no_field : (cycle : Option ℤ) (line : Option (List ℕ)) (level : Option ℤ) (fault : ValueFault)
-    → is_fault (choice_fault (option_map cycle_of cycle)) fault ≡ false → is_fault (choice_fault (option_map line_named line)) fault ≡ false
-    → is_fault (choice_fault (option_map level_of level)) fault ≡ false → is_fault (choice_fault (reading_with cycle line level)) fault ≡ false
+    → is_fault (choice_fault (option_map cycle_of cycle)) fault ≡ false →
+    is_fault (choice_fault (option_map line_named line)) fault ≡ false
+    → is_fault (choice_fault (option_map level_of level)) fault ≡ false →
+    is_fault (choice_fault (reading_with cycle line level)) fault ≡ false
 no_field None line level fault first second third = first
 no_field (Some cycle) None level fault first second third = second
 no_field (Some cycle) (Some line) None fault first second third = third

@@ -31,7 +31,8 @@ none_at test start (y ∷ ys) zero x none here = grind arith
 none_at test start (y ∷ ys) (suc i) x none here = grind (arith, none_at test (start + 1) ys i x)
 
 -- where no element passes, there is no first one
-nowhere : {X : Type 0} (test : X → Bool) (start : ℕ) (xs : List X) → ((x : X) → test x ≡ false) → position_from test start xs ≡ None
+nowhere : {X : Type 0} (test : X → Bool) (start : ℕ) (xs : List X) → ((x : X) → test x ≡ false) →
+    position_from test start xs ≡ None
 nowhere test start [] none = refl
 nowhere test start (x ∷ xs) none = rw (none x) (nowhere test (start + 1) xs none)
 
@@ -47,7 +48,8 @@ no_places : (kind range power : Option ℕ) →
     → (kind ≡ None) × (range ≡ None) × (power ≡ None)
 no_places kind range power none = (grind arith, grind arith, grind arith)
 
-no_key : (t : Members) (fault : ValueFault) (key : Key) → first_place fault t ≡ None → is_fault (key_fault t key) fault ≡ false
+no_key : (t : Members) (fault : ValueFault) (key : Key) → first_place fault t ≡ None →
+    is_fault (key_fault t key) fault ≡ false
 unfolding first_place
 no_key t fault key none =
     let (index, here) = in_order key in
@@ -58,12 +60,13 @@ pub faultless : (t : Members) → IsNone (first_error t) → IsFaultless t
 faultless t none =
     elim (cases_Bool (has_unknown t)) [
       | inl unknown ↦ let impossible : true ≡ false = rw unknown at none in absurd (cc)
-      | inr known ↦ let places = no_places (first_place WrongKind t) (first_place OutOfRange t) (first_place NotPowerOfTwo t) (rw known at none) in record {
-        known = known;
-        keys =
-            λ key. no_fault (key_fault t key) (no_key t WrongKind key places.0) (no_key t OutOfRange key places.1)
-            (no_key t NotPowerOfTwo key places.2);
-      }
+      | inr known ↦ let places = no_places (first_place WrongKind t) (first_place OutOfRange t)
+          (first_place NotPowerOfTwo t) (rw known at none) in record {
+            known = known;
+            keys =
+                λ key. no_fault (key_fault t key) (no_key t WrongKind key places.0) (no_key t OutOfRange key places.1)
+                (no_key t NotPowerOfTwo key places.2);
+          }
     ]
 
 no_place : (t : Members) (fault : ValueFault) → ((key : Key) → key_fault t key ≡ None) → first_place fault t ≡ None
@@ -73,7 +76,12 @@ no_place t fault none =
 
 first_error-faultless : (t : Members) → IsFaultless t → first_error t ≡ None
 first_error-faultless t legal =
-    rw (legal.known, no_place t WrongKind legal.keys, no_place t OutOfRange legal.keys, no_place t NotPowerOfTwo legal.keys)
+    rw (
+      legal.known,
+      no_place t WrongKind legal.keys,
+      no_place t OutOfRange legal.keys,
+      no_place t NotPowerOfTwo legal.keys,
+    )
 
 -- what is described without an error has none
 no_error : (found : Option DescriptionError) (values : Values) →
@@ -105,20 +113,25 @@ integer_taken bounds size default (Some z) none base = word_taken bounds size de
 held_taken : (key : NumberKey) (size default : ℕ) (found : Option (Option Data)) →
     option_map_or (option_and_then (value_fault (Number key) size)) found (Some WrongKind) ≡ None →
     takes (row_of key).bounds size default ≡ true
-    → takes (row_of key).bounds size (unwrap_or (option_and_then word_of (option_and_then as_integer (option_flatten found))) default) ≡ true
+    → takes (row_of key).bounds size
+    (unwrap_or (option_and_then word_of (option_and_then as_integer (option_flatten found))) default) ≡ true
 held_taken key size default None none base = base
 held_taken key size default (Some None) none base = base
-held_taken key size default (Some (Some value)) none base = integer_taken (row_of key).bounds size default (as_integer value) none base
+held_taken key size default (Some (Some value)) none base =
+    integer_taken (row_of key).bounds size default (as_integer value) none base
 
-taken : (t : Members) → IsFaultless t → (key : NumberKey) → takes (row_of key).bounds (number t RamSize) (number t key) ≡ true
+taken : (t : Members) → IsFaultless t → (key : NumberKey) →
+    takes (row_of key).bounds (number t RamSize) (number t key) ≡ true
 unfolding key_fault number
 taken t legal key =
-    held_taken key _ (number_of standard_values key) (held t (key_place (Number key))) (legal.keys (Number key)) (standard_taken _ key)
+    held_taken key _ (number_of standard_values key) (held t (key_place (Number key))) (legal.keys (Number key))
+    (standard_taken _ key)
 
 -- each value of a faultless table is one that its key takes
 pub values_of-legal : (t : Members) → IsFaultless t → ObeysEachKey (values_of t)
 values_of-legal t legal (Number key) =
-    rw (number_of-values_with (number t) (is_pipelined t) (values_of t).recovery (values_of t).predictor.kind key) (taken t legal key)
+    rw (number_of-values_with (number t) (is_pipelined t) (values_of t).recovery (values_of t).predictor.kind
+    key) (taken t legal key)
 values_of-legal t legal Recovery = refl
 values_of-legal t legal (Pipelined kind) = refl
 values_of-legal t legal PredictorKind = refl

@@ -17,7 +17,8 @@ adjacent : (number before : ℕ) (arrivals : List Arrival) → first_fall number
 adjacent number before [] none k d within = absurd (omega arith)
 adjacent number before (a ∷ []) none k d within = absurd (omega arith)
 adjacent number before (a ∷ b ∷ later) none zero d within = grind (arith, nat_tests)
-adjacent number before (a ∷ b ∷ later) none (suc k) d within = grind (arith, nat_tests, adjacent (number + 1) a.cycle (b ∷ later))
+adjacent number before (a ∷ b ∷ later) none (suc k) d within =
+    grind (arith, nat_tests, adjacent (number + 1) a.cycle (b ∷ later))
 
 -- each cycle is in its range
 within : (entry : Data) (arrival : Arrival) → arrival_of entry ≡ Some arrival → arrival.cycle ≤ 1000000
@@ -33,15 +34,18 @@ all_within : (entries : List Data) → AllByRecursion (λ a. a.cycle ≤ 1000000
 all_within [] = tt
 all_within (first ∷ later) = one_within (arrival_of first) (arrivals_of later) (within first) (all_within later)
 
-length-filter_map : {A B : Type 0} (read : A → Option B) (items : List A) → length (filter_map read items) ≤ length items
+length-filter_map : {A B : Type 0} (read : A → Option B) (items : List A) →
+    length (filter_map read items) ≤ length items
 length-filter_map read [] = omega arith
 length-filter_map read (item ∷ later) = grind (arith, length-filter_map read later)
 
 -- the arrivals of at most 100,000 entries, among which no cycle falls, are legal
-pub legal : (entries : List Data) → length entries ≤ 100000 → first_fall 1 0 (arrivals_of entries) ≡ None → IsLegalArrivals (arrivals_of entries)
+pub legal : (entries : List Data) → length entries ≤ 100000 → first_fall 1 0 (arrivals_of entries) ≡ None →
+    IsLegalArrivals (arrivals_of entries)
 legal entries few none =
     record {
       count = omega (arith, length-filter_map arrival_of entries);
       last = All-from_recursion (λ a. a.cycle ≤ 1000000) (arrivals_of entries) (all_within entries);
-      order = IsNonDecreasingBy-from_all_adjacent (λ a. a.cycle) (arrivals_of entries) (adjacent 1 0 (arrivals_of entries) none);
+      order = IsNonDecreasingBy-from_all_adjacent (λ a. a.cycle) (arrivals_of entries)
+          (adjacent 1 0 (arrivals_of entries) none);
     }

@@ -4,7 +4,8 @@ use Rattle.std.specs.List.{cons_option, filter_map, list_any}
 
 module _ {A B : Type 0} (view : A → B) where
   -- some image passes a test exactly where some item does by its image
-  pub list_any-map : (test : B → Bool) (items : List A) → list_any test (map view items) ≡ list_any (λ item. test (view item)) items
+  pub list_any-map : (test : B → Bool) (items : List A) → list_any test (map view items)
+      ≡ list_any (λ item. test (view item)) items
   list_any-map test [] = refl
   list_any-map test (item ∷ later) = ap (λ rest. test (view item) || rest) (list_any-map test later)
 

@@ -10,7 +10,8 @@ use Rattle.rv_drawing.specs.Marked.{is_mark, is_marked}
 use Rattle.rv_drawing.specs.declared.mark.Mark.{Mark}
 
 -- without the first one, which is of another instruction
-pub is_marked-drop : (marks : List Mark) (number : ℕ) (other : Mark) → 0 < length marks → (get_or marks 0 other).number ≢ number
+pub is_marked-drop : (marks : List Mark) (number : ℕ) (other : Mark) → 0 < length marks →
+    (get_or marks 0 other).number ≢ number
     → is_marked (take (length marks - 1) (drop 1 marks)) number ≡ is_marked marks number
 is_marked-drop [] number other some is_other = absurd (omega arith)
 is_marked-drop (mark ∷ marks) number other some is_other =
@@ -19,7 +20,8 @@ is_marked-drop (mark ∷ marks) number other some is_other =
     || is_marked marks number column)
 
 -- without the last one, which is of another instruction
-pub is_marked-take : (marks : List Mark) (number : ℕ) (other : Mark) → 0 < length marks → (get_or marks (length marks - 1) other).number ≢ number
+pub is_marked-take : (marks : List Mark) (number : ℕ) (other : Mark) → 0 < length marks →
+    (get_or marks (length marks - 1) other).number ≢ number
     → is_marked (take (length marks - 1) marks) number ≡ is_marked marks number
 is_marked-take marks number other some is_other i column = same column i
   where
@@ -31,6 +33,8 @@ is_marked-take marks number other some is_other i column = same column i
         let test = is_mark number column in
         let before = list_any test (take last marks) in
         let one_more : list_any test marks ≡ (before || test (get_or marks last other)) =
-        ap (list_any test) (sym (take_all (last + 1) marks (omega arith))) ∙ list_any_more test marks last other (omega arith) in
-        let other_one : (before || test (get_or marks last other)) ≡ (before || false) = λ i. before || (ne_eqb _ _ is_other i && (get_or marks last other).column == column) in
+        ap (list_any test) (sym (take_all (last + 1) marks (omega arith)))
+        ∙ list_any_more test marks last other (omega arith) in
+        let other_one : (before || test (get_or marks last other)) ≡ (before || false) =
+        λ i. before || (ne_eqb _ _ is_other i && (get_or marks last other).column == column) in
         sym (one_more ∙ other_one ∙ or-false before)

@@ -75,7 +75,8 @@ interrupt_at window interrupts column =
 -- the line of the interrupts
 unfoldable pub mark_line : Window → List ℕ → List ℕ
 mark_line window interrupts =
-    codes "interrupts                                                 " ++ (columns window (interrupt_at window interrupts) ++ codes "\n")
+    codes "interrupts                                                 "
+    ++ (columns window (interrupt_at window interrupts) ++ codes "\n")
 
 -- no line where there are none
 unfoldable pub interrupt_line : Window → List ℕ → List ℕ

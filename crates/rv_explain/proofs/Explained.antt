@@ -26,7 +26,8 @@ module _ {arrivals : List Arrival} {limit : ℕ} {values : Values} {old new : Gu
     (tallied : IsTallied arrivals limit values old new run) where
   -- what is written of a tallied run is its explanation
   pub explained : (figures : Figures) (path : Option Accounted) (listing : Listed) →
-      IsExplanation arrivals limit figures values path listing old new run.stop (explanation figures path listing new.hardware run)
+      IsExplanation arrivals limit figures values path listing old new run.stop
+      (explanation figures path listing new.hardware run)
   explained figures path listing = record {
     moments = tallied.moments;
     run = tallied.run;
@@ -51,13 +52,16 @@ module _ {arrivals : List Arrival} {limit : ℕ} {values : Values} {old new : Gu
       let fewer = length-append (passages_after still_open old.hardware moments).rows left in
       let branches = noted_few (word_in Branch) left (λ t. sum t.tally.branches.words) (λ t. t.fetched) refl
       (omega (arith, fewer)) in
-      let mispredicted = noted_few (word_in Mispredicted) left (λ t. sum t.tally.mispredicted.words) (λ t. t.fetched) refl
+      let mispredicted = noted_few (word_in Mispredicted) left
+      (λ t. sum t.tally.mispredicted.words) (λ t. t.fetched) refl
       (omega (arith, fewer)) in
       record {
-        heads = noted_few itself (accounts_of old.hardware moments) (λ t. sum t.tally.heads.words) (λ t. t.progress.cycles)
+        heads = noted_few itself (accounts_of old.hardware moments) (λ t. sum t.tally.heads.words)
+            (λ t. t.progress.cycles)
             refl (omega (arith, length-accounts old.hardware moments, length-reports_of moments));
         awaited = noted_few itself (awaited_of old.hardware moments) (λ t. sum t.tally.awaited.words)
-            (λ t. t.progress.cycles) refl (omega (arith, length-awaited old.hardware moments, length-reports_of moments));
+            (λ t. t.progress.cycles) refl
+            (omega (arith, length-awaited old.hardware moments, length-reports_of moments));
         branches = omega (arith, branches, countable);
         mispredicted = omega (arith, mispredicted, countable);
         stays = tallied.few_stays;

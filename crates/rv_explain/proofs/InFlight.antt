@@ -45,7 +45,8 @@ module _ (test : Passage → Bool) (fails : (p : Passage) → is_in_flight p ≡
   none_counted (p ∷ ps) all =
       rw (fails p (all 0 p (omega arith))) (none_counted ps (λ k d within. all (suc k) d (omega (arith, within))))
 
-  counted_among : (kept others : List Passage) → AllPass is_in_flight others → count_by test (kept ++ others) ≡ count_by test kept
+  counted_among : (kept others : List Passage) → AllPass is_in_flight others →
+      count_by test (kept ++ others) ≡ count_by test kept
   counted_among kept others all =
       omega (arith, sum_by-append (λ p. cond (test p) 1 0) kept others, none_counted others all)
 
@@ -66,12 +67,17 @@ module _ (place : Passage → Option ℕ) (fails : (p : Passage) → is_in_fligh
   noted_among (p ∷ ps) others notes all = ap (with_one (place p)) (noted_among ps others notes all)
 
   -- so what is counted at words is the same without them
-  pub noted_same : (rows kept : List Passage) (notes : Notes ℕ) → IsUpToYoungestLeft rows kept → with_all place kept notes ≡ with_all place rows notes
-  noted_same rows kept notes up = sym (noted_among kept up.others notes up.in_flight) ∙ ap (λ ps. with_all place ps notes) (sym up.rows_are)
+  pub noted_same : (rows kept : List Passage) (notes : Notes ℕ) → IsUpToYoungestLeft rows kept →
+      with_all place kept notes ≡ with_all place rows notes
+  noted_same rows kept notes up = sym (noted_among kept up.others notes up.in_flight)
+      ∙ ap (λ ps. with_all place ps notes) (sym up.rows_are)
 
 -- and so are the loads
-pub loads_same : (costs : LoadCosts) (rows kept : List Passage) → IsUpToYoungestLeft rows kept → loads_of costs kept ≡ loads_of costs rows
+pub loads_same : (costs : LoadCosts) (rows kept : List Passage) → IsUpToYoungestLeft rows kept →
+    loads_of costs kept ≡ loads_of costs rows
 loads_same costs rows kept up =
-    let all = counted_same (λ p. is_some (retired_load_cost p)) (λ p flies. ap is_some (no_load p flies)) rows kept up in
-    let quick = counted_same (λ p. is_hit costs (retired_load_cost p)) (λ p flies. ap (is_hit costs) (no_load p flies)) rows kept up in
+    let all = counted_same (λ p. is_some (retired_load_cost p))
+    (λ p flies. ap is_some (no_load p flies)) rows kept up in
+    let quick = counted_same (λ p. is_hit costs (retired_load_cost p))
+    (λ p flies. ap (is_hit costs) (no_load p flies)) rows kept up in
     λ i. record { all = all i; quick = quick i }

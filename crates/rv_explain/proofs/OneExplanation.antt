@@ -9,7 +9,8 @@ use Rattle.rv_explain.specs.Explanation.{IsExplanation, explanation, tallied_of}
 use Rattle.rv_view.specs.Run.{HasOneText}
 
 -- of a run of described hardware there is one explanation
-pub one_explanation : (arrivals : List Arrival) (limit : ℕ) (figures : Figures) (values : Values) (path : Option Accounted) (listing : Listed) →
+pub one_explanation : (arrivals : List Arrival) (limit : ℕ) (figures : Figures) (values : Values)
+    (path : Option Accounted) (listing : Listed) →
     HasOneText limit (IsExplanation arrivals limit figures values path listing)
 one_explanation arrivals limit figures values path listing h predictor new new' stop stop' text text' within is is' =
     let same = one_run within is.run is'.run in (

@@ -57,7 +57,8 @@ use Rattle.rv_sentences.proofs.RaisedGrows.{raised-push}
 use Rattle.rv_sentences.proofs.StaysGrow.{awaited-push, length-awaited, stays-push}
 use Rattle.rv_sentences.proofs.Works.{branch_words-left, loads-left, mispredicted_words-left, work-left}
 
-kept_after-push : (es : List Exception) (o : Option Exception) → kept_after o (kept_of es) ≡ kept_of (es ++ cons_option o [])
+kept_after-push : (es : List Exception) (o : Option Exception) → kept_after o (kept_of es)
+    ≡ kept_of (es ++ cons_option o [])
 kept_after-push es None = sym (ap kept_of (append-nil es))
 kept_after-push es (Some e) = kept-push e es
 
@@ -68,7 +69,8 @@ exceptions-push moments moment =
     kept_after-push (exceptions_of moments) (exception_of_cycle moment)
     ∙ sym (ap kept_of (filter_map-append exception_of_cycle moments (moment ∷ [])))
 
-interrupts_after-push : (is : List Interruption) (o : Option Interruption) → interrupts_after o (by_line is) ≡ by_line (is ++ cons_option o [])
+interrupts_after-push : (is : List Interruption) (o : Option Interruption) → interrupts_after o (by_line is)
+    ≡ by_line (is ++ cons_option o [])
 interrupts_after-push is None = sym (ap by_line (append-nil is))
 interrupts_after-push is (Some i) = sym (by_line-push is i)
 
@@ -107,7 +109,8 @@ dispatched_with-le (Interrupt pc cause cycle) d = omega arith
 
 dispatched_after-le : (steps : List Step) (d : Dispatches) → (dispatched_after steps d).cycles ≤ d.cycles + length steps
 dispatched_after-le [] d = omega arith
-dispatched_after-le (step ∷ steps) d = omega (arith, dispatched_with-le step d, dispatched_after-le steps (dispatched_with step d))
+dispatched_after-le (step ∷ steps) d =
+    omega (arith, dispatched_with-le step d, dispatched_after-le steps (dispatched_with step d))
 
 module _ (values : Values) where
   -- one more cycle
@@ -196,8 +199,10 @@ module _ (values : Values) where
     awaited = omega (arith, counted_within itself values (awaited_of h moments), length-awaited h moments, within);
     places = omega (arith, placed);
     retired = omega (arith, count_by-le-length is_retirement (steps_of (reports_of moments)), few, little);
-    exceptions = kept_counted (exceptions_of moments) (omega (arith, length-filter_map exception_of_cycle moments, within));
-    interrupts = lines_counted (interruptions_of moments) (omega (arith, length-filter_map interruption_of_cycle moments, within));
+    exceptions = kept_counted (exceptions_of moments)
+        (omega (arith, length-filter_map exception_of_cycle moments, within));
+    interrupts = lines_counted (interruptions_of moments)
+        (omega (arith, length-filter_map interruption_of_cycle moments, within));
     left = record {
       left = omega (arith, fewer, some);
       squashed = omega (arith, count_by-le-length (λ (p : Passage). is_squash p.ending) left, fewer, some);

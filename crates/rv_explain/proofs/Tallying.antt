@@ -77,10 +77,12 @@ module _ {seen : Watched} {cycle : ShownCycle}
   placed_now = placed next.shown.reached (any_cycle next.shown.cycled.cycle)
 
   abbrev pub places_now : CyclePlaces
-  places_now = places_by cycle.hardware.now.values cycle.number in_flight cycle.steps.now cycle.hardware.now.rob cycle.hardware.now.front
+  places_now = places_by cycle.hardware.now.values cycle.number in_flight cycle.steps.now cycle.hardware.now.rob
+      cycle.hardware.now.front
 
   places_are : places_now ≡ places_in seen.now.hardware moment
-  places_are = places_seen placed_now cycle.number in_flight cycle.steps.now next.shown.number tallying.in_flight_is next.shown.steps_are
+  places_are = places_seen placed_now cycle.number in_flight cycle.steps.now next.shown.number
+      tallying.in_flight_is next.shown.steps_are
 
   -- those of a cycle are few
   pub few_places : cycle_total places_now ≤ 264
@@ -139,26 +141,30 @@ module _ {seen : Watched} {cycle : ShownCycle}
       tally → registers' ≡ cycle.hardware.now.registers → end' ≡ drain_end cycle.hardware.now
       → in_flight' ≡ length cycle.hardware.now.rob.entries → in_flight' ≤ 256 →
       IsTallying first tally' registers' end' in_flight' (with_shown seen next.shown)
-  tallied_on drain tally' registers' end' in_flight' places lines lines_are places_is drain_is added registers_are end_is in_flight_is few =
+  tallied_on drain tally' registers' end' in_flight' places lines lines_are places_is drain_is added registers_are
+      end_is in_flight_is few =
       let shown = next.shown in
       let steps = cycle.steps.now in
       let after = cycle.hardware.now in
       let rows = cycle.rows.now in
       let drain_now : drain ≡ drain_in seen.arrivals seen.now.hardware =
-      drain_is ∙ (λ i. begun (shown.number i) (tallying.end_is i) (end_is i)) ∙ begun_in_cycle shown.reached (any_cycle shown.cycled.cycle) in
+      drain_is ∙ (λ i. begun (shown.number i) (tallying.end_is i) (end_is i))
+      ∙ begun_in_cycle shown.reached (any_cycle shown.cycled.cycle) in
       let placed_as : places ≡ places_in seen.now.hardware moment = places_is ∙ places_are in
       let free = is_free cycle.number (at_kind Mem after.units) in
       let one_more = cycle_counts shown.cycled in
       let left = left_after seen.first.hardware seen.moments in
       record {
         values = tallying.values;
-        some_left = some_left-push shown.passes moment next.rows_are next.few (cycle_counts shown.cycled) tallying.some_left;
+        some_left = some_left-push shown.passes moment next.rows_are next.few
+            (cycle_counts shown.cycled) tallying.some_left;
         of_no_cycle = tallying.of_no_cycle;
         tallied = λ by is.
             added ∙ (λ i. tally_after (shown.number i) (tallying.registers_are i) (shown.steps_are i) (placed_as i)
             (drain_now i) (lines_are i) after rows (tallying.tallied by is i)) ∙
             tally-push by moment rows left shown.passes next.rows_are ∙
-            ap (tally_of by seen.arrivals seen.first.hardware (seen.moments ++ moment ∷ [])) (sym (left-push shown.passes moment next.rows_are));
+            ap (tally_of by seen.arrivals seen.first.hardware (seen.moments ++ moment ∷ []))
+            (sym (left-push shown.passes moment next.rows_are));
         few_stays =
             omega (
               arith,
@@ -188,23 +194,32 @@ module _ {arrivals : List Arrival} {old new : GuidedHardware} {moments : List Mo
   -- so can the places of all its cycles
   pub places_of_all : {limit : ℕ} {stop : Stop} {progress : Progress} → IsEndedRun arrivals limit old moments new stop →
       progress ≡ progress_of (reports_of moments)
-      → new.hardware.cycle ≤ 2 ^ 40 → Reachable new.hardware → progress.cycles * new.hardware.values.dispatch_width < 2 ^ 64
+      → new.hardware.cycle ≤ 2 ^ 40 → Reachable new.hardware →
+      progress.cycles * new.hardware.values.dispatch_width < 2 ^ 64
   places_of_all {progress = progress} run counted within reached =
-      let few : progress.cycles ≤ 2 ^ 40 = omega (arith, ap (λ (p : Progress). p.cycles) counted, moments_counted run.passes, within) in
+      let few : progress.cycles ≤ 2 ^ 40 =
+      omega (arith, ap (λ (p : Progress). p.cycles) counted, moments_counted run.passes, within) in
       let wide : new.hardware.values.dispatch_width ≤ 8 = (sound reached).sizes.legal.pipeline.dispatch_width.1 in
       omega (arith, mul-le progress.cycles new.hardware.values.dispatch_width (2 ^ 40) 8 few wide)
 
   -- all that was fetched can be counted
-  pub fetched_counted : (rows : List Passage) → rows ≡ (passages_of table).rows → new.hardware.cycle ≤ 2 ^ 40 → tally.work.left + length rows < 2 ^ 64
-  fetched_counted rows rows_are within = omega (arith, left_are, tallying.some_left, kept.few, ap length rows_are, within)
+  pub fetched_counted : (rows : List Passage) → rows ≡ (passages_of table).rows → new.hardware.cycle ≤ 2 ^ 40 →
+      tally.work.left + length rows < 2 ^ 64
+  fetched_counted rows rows_are within =
+      omega (arith, left_are, tallying.some_left, kept.few, ap length rows_are, within)
 
   -- what was kept of the run
-  pub tallied_to_the_end : {limit : ℕ} {values : Values} {stop : Stop} {progress : Progress} → IsEndedRun arrivals limit old moments new stop
-      → progress ≡ progress_of (reports_of moments) → IsOfNoCycle values first → (rows : List Passage) → rows ≡ (passages_of table).rows
-      → progress.cycles * new.hardware.values.dispatch_width < 2 ^ 64 → Reachable old.hardware → new.hardware.cycle ≤ 2 ^ 40
-      → IsTallied arrivals limit values old new (record { stop = stop; progress = progress; fetched = tally.work.left + length rows; tally = tally })
+  pub tallied_to_the_end : {limit : ℕ} {values : Values} {stop : Stop} {progress : Progress} →
+      IsEndedRun arrivals limit old moments new stop
+      → progress ≡ progress_of (reports_of moments) → IsOfNoCycle values first → (rows : List Passage) →
+      rows ≡ (passages_of table).rows
+      → progress.cycles * new.hardware.values.dispatch_width < 2 ^ 64 → Reachable old.hardware →
+      new.hardware.cycle ≤ 2 ^ 40
+      → IsTallied arrivals limit values old new
+      (record { stop = stop; progress = progress; fetched = tally.work.left + length rows; tally = tally })
   tallied_to_the_end {values = values} {stop = stop} run counted of_no_cycle rows rows_are few reached within =
-      let open_rows : rows ≡ (passages_after still_open old.hardware moments).rows = rows_are ∙ ap (λ (t : Passages). t.rows) kept.followed.passages in
+      let open_rows : rows ≡ (passages_after still_open old.hardware moments).rows = rows_are
+      ∙ ap (λ (t : Passages). t.rows) kept.followed.passages in
       let fetched_are : tally.work.left + length rows ≡ length (passages_of_run old.hardware moments) =
       omega (
         arith,

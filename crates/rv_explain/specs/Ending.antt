@@ -16,7 +16,8 @@ use Rattle.rv_explain.specs.declared.origin.Origin.{Origin}
 -- why a run ended
 unfoldable pub reason_text : Stop → List ℕ
 reason_text Breakpoint = codes "The run ended at a breakpoint, at "
-reason_text (Stale pc) = codes "The run ended at a word that was stored to and then fetched without a FENCE.I in between, at "
+reason_text (Stale pc) =
+    codes "The run ended at a word that was stored to and then fetched without a FENCE.I in between, at "
 reason_text Limit = codes "The run was cut off at its limit of cycles, and the program stood at "
 reason_text Exhausted = codes "The core has done all the cycles that it counts, and the program stood at "
 

@@ -31,7 +31,8 @@ sequential Indirect is = cc
 
 -- the row has one of the opcodes, or makes an instruction after which the next word is
 abbrev stays : ℕ → ℕ → Row → Bool
-stays pc word row = list_any (λ code. opcode row.fixed == code) codes_elsewhere || is_sequential (flow_of pc (row.instruction word))
+stays pc word row = list_any (λ code. opcode row.fixed == code) codes_elsewhere || is_sequential
+    (flow_of pc (row.instruction word))
 
 flow_after-by_rows : (pc word code third seventh : ℕ) → list_any (λ known. code == known) codes_elsewhere ≡ false →
     (rows : List Row) → list_all (stays pc word) rows ≡ true →
@@ -55,12 +56,16 @@ flow_at-sequential pc word small elsewhere =
 -- each described predictor answers the next word
 pub answer-sequential : (predictor : DescribedPredictor) (pc word : ℕ) → word < 2 ^ 32 → leads_elsewhere word ≡ false →
     answer predictor pc (flow_at pc word) ≡ pc_plus_4 pc
-answer-sequential (NotTaken plain) pc word small elsewhere = ap (not_taken pc) (flow_at-sequential pc word small elsewhere)
-answer-sequential (BackwardTaken plain) pc word small elsewhere = ap (backward_taken pc) (flow_at-sequential pc word small elsewhere)
-answer-sequential (Bimodal tables) pc word small elsewhere = ap (bimodal tables pc) (flow_at-sequential pc word small elsewhere)
+answer-sequential (NotTaken plain) pc word small elsewhere =
+    ap (not_taken pc) (flow_at-sequential pc word small elsewhere)
+answer-sequential (BackwardTaken plain) pc word small elsewhere =
+    ap (backward_taken pc) (flow_at-sequential pc word small elsewhere)
+answer-sequential (Bimodal tables) pc word small elsewhere =
+    ap (bimodal tables pc) (flow_at-sequential pc word small elsewhere)
 
 -- and learns nothing
-pub taught-sequential : (predictor : DescribedPredictor) (pc word next : ℕ) → word < 2 ^ 32 → leads_elsewhere word ≡ false
+pub taught-sequential : (predictor : DescribedPredictor) (pc word next : ℕ) → word < 2 ^ 32 →
+    leads_elsewhere word ≡ false
     → taught predictor (record { pc = pc; word = word; next = next }) ≡ predictor
 taught-sequential (NotTaken plain) pc word next small elsewhere = refl
 taught-sequential (BackwardTaken plain) pc word next small elsewhere = refl

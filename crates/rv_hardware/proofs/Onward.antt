@@ -269,7 +269,8 @@ drop-each P [] all = tt
 drop-each P (x ∷ xs) all = all.1
 
 -- what is left by some steps is as each was
-pub left_by-each : {X : Type 0} (P : X → Type 0) (steps : List Step) (xs : List X) → Each P xs → Each P (left_by steps xs)
+pub left_by-each : {X : Type 0} (P : X → Type 0) (steps : List Step) (xs : List X) → Each P xs →
+    Each P (left_by steps xs)
 left_by-each P [] xs all = all
 left_by-each P (step.Retired row ∷ steps) xs all = left_by-each P steps (drop 1 xs) (drop-each P xs all)
 left_by-each P (step.Trap pc cause value cycle ∷ steps) xs all = left_by-each P steps (drop 1 xs) (drop-each P xs all)

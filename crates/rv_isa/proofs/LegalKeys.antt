@@ -31,7 +31,8 @@ unfolding order
 in_order key = (unwrap_or (position_from (λ other. bytes_eq (text_of other) (text_of key)) 0 order) 0, grind arith)
 
 -- what passes at each element passes at one of them, and what passes everywhere passes at each element
-all_at : {X : Type 0} (test : X → Bool) (xs : List X) (i : ℕ) (x : X) → list_all test xs ≡ true → slice_get xs i ≡ Some x → test x ≡ true
+all_at : {X : Type 0} (test : X → Bool) (xs : List X) (i : ℕ) (x : X) → list_all test xs ≡ true →
+    slice_get xs i ≡ Some x → test x ≡ true
 all_at test [] i x all here = absurd (cc)
 all_at test (y ∷ ys) zero x all here = grind arith
 all_at test (y ∷ ys) (suc i) x all here = grind (arith, all_at test ys i x)
@@ -118,5 +119,6 @@ unfolding ones
 power_16 = refl
 
 -- each key of a number takes its standard value
-pub standard_taken : (size : ℕ) (key : NumberKey) → takes (row_of key).bounds size (number_of standard_values key) ≡ true
+pub standard_taken : (size : ℕ) (key : NumberKey) →
+    takes (row_of key).bounds size (number_of standard_values key) ≡ true
 standard_taken size key = grind (arith, nat_tests, power_16)

@@ -20,7 +20,8 @@ filter_prefix p [] zero on off le = refl
 filter_prefix p [] (suc i) on off le = refl
 filter_prefix p (x ∷ xs) zero on off le =
     let first : p x ≡ false = off 0 x (omega arith) (omega arith) in
-    rw first (filter_prefix p xs 0 (λ k d lt. absurd (omega arith)) (λ k d ge lt. off (suc k) d (omega arith) (omega arith)) (omega arith))
+    rw first (filter_prefix p xs 0 (λ k d lt. absurd (omega arith))
+    (λ k d ge lt. off (suc k) d (omega arith) (omega arith)) (omega arith))
 filter_prefix p (x ∷ xs) (suc i) on off le =
     let first : p x ≡ true = on 0 x (omega arith) in
     rw first (ap (λ r. x ∷ r)
@@ -30,10 +31,12 @@ filter_prefix p (x ∷ xs) (suc i) on off le =
 -- the levels after n more of what follows the first m
 pub fold-more : (before lines : Lines) (xs rest : List Arrival) (m n : ℕ) → rest ≡ take n (drop m xs) →
     lines ≡ fold line_set before (take m xs) → fold line_set lines rest ≡ fold line_set before (take (m + n) xs)
-fold-more before lines xs rest m n from here = rw (from, here, take-add m n xs) (sym (fold-append line_set before (take m xs) (take n (drop m xs))))
+fold-more before lines xs rest m n from here =
+    rw (from, here, take-add m n xs) (sym (fold-append line_set before (take m xs) (take n (drop m xs))))
 
 -- the levels in a cycle, by going over the arrivals that are not later
-lines_at-fold : (arrivals : List Arrival) (cycle : ℕ) → lines_at arrivals cycle ≡ fold line_set no_lines (filter (λ a. nat_le a.cycle cycle) arrivals)
+lines_at-fold : (arrivals : List Arrival) (cycle : ℕ) →
+    lines_at arrivals cycle ≡ fold line_set no_lines (filter (λ a. nat_le a.cycle cycle) arrivals)
 lines_at-fold arrivals cycle =
     let up_to = filter (λ a. nat_le a.cycle cycle) arrivals in
     λ i. record {

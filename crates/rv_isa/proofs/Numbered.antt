@@ -27,19 +27,23 @@ module _ {X : Type 0} (seq : X → ℕ) where
   -- where every number is below n, all are kept
   pub below-all : (n : ℕ) (xs : List X) → AreBelow seq n xs → below seq n xs ≡ xs
   below-all n [] are = refl
-  below-all n (x ∷ xs) are = below-stays n x xs (are 0 x (omega arith)) ∙ ap (λ l. x ∷ l) (below-all n xs (All-tail (λ z. seq z < n) x xs are))
+  below-all n (x ∷ xs) are = below-stays n x xs (are 0 x (omega arith))
+      ∙ ap (λ l. x ∷ l) (below-all n xs (All-tail (λ z. seq z < n) x xs are))
 
   -- where no number is below n, none is kept
   pub below-none : (n : ℕ) (xs : List X) → All (λ x. n ≤ seq x) xs → below seq n xs ≡ []
   below-none n [] are = refl
-  below-none n (x ∷ xs) are = below-goes n x xs (are 0 x (omega arith)) ∙ below-none n xs (All-tail (λ z. n ≤ seq z) x xs are)
+  below-none n (x ∷ xs) are = below-goes n x xs (are 0 x (omega arith))
+      ∙ below-none n xs (All-tail (λ z. n ≤ seq z) x xs are)
 
   -- those below the lower of two numbers
   pub below-below : (m n : ℕ) (xs : List X) → m ≤ n → below seq m (below seq n xs) ≡ below seq m xs
   below-below m n [] le = refl
   below-below m n (x ∷ xs) le = elim (cases_lt (seq x) n) [
-    | inl low ↦ ap (below seq m) (below-stays n x xs low) ∙ ap (λ l. cond (nat_lt (seq x) m) (x ∷ l) l) (below-below m n xs le)
-    | inr high ↦ ap (below seq m) (below-goes n x xs high) ∙ below-below m n xs le ∙ sym (below-goes m x xs (omega arith))
+    | inl low ↦ ap (below seq m) (below-stays n x xs low)
+        ∙ ap (λ l. cond (nat_lt (seq x) m) (x ∷ l) l) (below-below m n xs le)
+    | inr high ↦ ap (below seq m) (below-goes n x xs high) ∙ below-below m n xs le
+        ∙ sym (below-goes m x xs (omega arith))
   ]
 
   -- one list whose numbers are all below n, and one whose are not
@@ -132,7 +136,8 @@ module _ {X : Type 0} (seq : X → ℕ) where
 
   -- in order, none is below n after one that is not
   pub below-stops : (n : ℕ) (x : X) (xs : List X) → IsInOrder seq (x ∷ xs) → n ≤ seq x → below seq n (x ∷ xs) ≡ []
-  below-stops n x xs order le = below-goes n x xs le ∙ below-none n xs (λ k d lt. omega (arith, IsInOrder-head x xs order k d lt))
+  below-stops n x xs order le = below-goes n x xs le
+      ∙ below-none n xs (λ k d lt. omega (arith, IsInOrder-head x xs order k d lt))
 
   -- in order, those below n are a beginning of the list
   pub below-take : (n : ℕ) (xs : List X) → IsInOrder seq xs → below seq n xs ≡ take (length (below seq n xs)) xs
@@ -154,15 +159,19 @@ module _ {X : Type 0} (seq : X → ℕ) where
       (λ k d le lt. high (suc k) d (omega arith) (omega arith)))
 
   -- the one at a place is above the first
-  IsInOrder-slice_get : (x : X) (i : ℕ) (xs : List X) (y : X) → All (λ z. seq x < seq z) xs → slice_get xs i ≡ Some y → seq x < seq y
+  IsInOrder-slice_get : (x : X) (i : ℕ) (xs : List X) (y : X) → All (λ z. seq x < seq z) xs → slice_get xs i ≡ Some y →
+      seq x < seq y
   IsInOrder-slice_get x i [] y above at = absurd (cc)
   IsInOrder-slice_get x zero (z ∷ zs) y above at = let same : z ≡ y = cc in rw (← same) (above 0 z (omega arith))
-  IsInOrder-slice_get x (suc i) (z ∷ zs) y above at = IsInOrder-slice_get x i zs y (All-tail (λ w. seq x < seq w) z zs above) at
+  IsInOrder-slice_get x (suc i) (z ∷ zs) y above at =
+      IsInOrder-slice_get x i zs y (All-tail (λ w. seq x < seq w) z zs above) at
 
   -- in order, all are below n where the last is
-  pub AreBelow-last : (n i : ℕ) (xs : List X) (x : X) → IsInOrder seq xs → length xs ≤ i + 1 → slice_get xs i ≡ Some x → seq x < n → AreBelow seq n xs
+  pub AreBelow-last : (n i : ℕ) (xs : List X) (x : X) → IsInOrder seq xs → length xs ≤ i + 1 → slice_get xs i ≡ Some x →
+      seq x < n → AreBelow seq n xs
   AreBelow-last n i [] x order past at lt = λ k d within. absurd (omega arith)
-  AreBelow-last n zero (y ∷ []) x order past at lt = let same : y ≡ x = cc in AreBelow-cons n y [] (rw same lt) (λ k d within. absurd (omega arith))
+  AreBelow-last n zero (y ∷ []) x order past at lt = let same : y ≡ x = cc in
+      AreBelow-cons n y [] (rw same lt) (λ k d within. absurd (omega arith))
   AreBelow-last n zero (y ∷ z ∷ ys) x order past at lt = absurd (omega arith)
   AreBelow-last n (suc i) (y ∷ ys) x order past at lt =
       AreBelow-cons n y ys (omega (arith, IsInOrder-slice_get y i ys x (IsInOrder-head y ys order) at))
@@ -174,8 +183,10 @@ module _ {X Y : Type 0} (seq : X → ℕ) (key : Y → ℕ) (f : X → Y) (same 
   pub below-map : (n : ℕ) (xs : List X) → below key n (map f xs) ≡ map f (below seq n xs)
   below-map n [] = refl
   below-map n (x ∷ xs) = elim (cases_lt (seq x) n) [
-    | inl low ↦ below-stays key n (f x) (map f xs) (omega (arith, same x)) ∙ ap (λ l. f x ∷ l) (below-map n xs) ∙ sym (ap (map f) (below-stays seq n x xs low))
-    | inr high ↦ below-goes key n (f x) (map f xs) (omega (arith, same x)) ∙ below-map n xs ∙ sym (ap (map f) (below-goes seq n x xs high))
+    | inl low ↦ below-stays key n (f x) (map f xs) (omega (arith, same x)) ∙ ap (λ l. f x ∷ l) (below-map n xs)
+        ∙ sym (ap (map f) (below-stays seq n x xs low))
+    | inr high ↦ below-goes key n (f x) (map f xs) (omega (arith, same x)) ∙ below-map n xs
+        ∙ sym (ap (map f) (below-goes seq n x xs high))
   ]
 
   -- a list in order is changed to one in order

@@ -27,7 +27,8 @@ pub by_kind-same : {X : Type 0} (a b : Kind → X) → ((kind : Kind) → a kind
 by_kind-same a b is = λ i. by_kind (λ kind. is kind i)
 
 module _ {X : Type 0} (kind : Kind) (part : X) (parts : PerKind X) where
-  at_kind-with_kind : (other : Kind) → at_kind other (with_kind kind part parts) ≡ cond (is_same other kind) part (at_kind other parts)
+  at_kind-with_kind : (other : Kind) → at_kind other (with_kind kind part parts)
+      ≡ cond (is_same other kind) part (at_kind other parts)
   at_kind-with_kind other = at_kind-by_kind (λ k. cond (is_same k kind) part (at_kind k parts)) other
 
   -- the kind has the new part
@@ -35,7 +36,8 @@ module _ {X : Type 0} (kind : Kind) (part : X) (parts : PerKind X) where
   with_kind-own = at_kind-with_kind kind ∙ ap (λ b. cond b part (at_kind kind parts)) (is_same-own kind)
 
   -- every other kind keeps its part
-  pub with_kind-other : (other : Kind) → is_same other kind ≡ false → at_kind other (with_kind kind part parts) ≡ at_kind other parts
+  pub with_kind-other : (other : Kind) → is_same other kind ≡ false →
+      at_kind other (with_kind kind part parts) ≡ at_kind other parts
   with_kind-other other is = at_kind-with_kind other ∙ ap (λ b. cond b part (at_kind other parts)) is
 
   -- what holds of the new part, and of each other one

@@ -11,15 +11,18 @@ use Rattle.rv_job.specs.Parts.{is_line_feed, is_separator, later_halves, precede
 abbrev IsShorter : ℕ → Option Halves → Type 0
 IsShorter bound found = IfSome found (λ halves. length halves.after < bound)
 
-either : (bound : ℕ) (one other : Option Halves) → IsShorter bound one → IsShorter bound other → IsShorter bound (option_or one other)
+either : (bound : ℕ) (one other : Option Halves) → IsShorter bound one → IsShorter bound other →
+    IsShorter bound (option_or one other)
 either bound None other first second = second
 either bound (Some halves) other first second = first
 
-after_byte : (byte bound : ℕ) (found : Option Halves) → IsShorter bound found → IsShorter (suc bound) (option_map (preceded (byte ∷ [])) found)
+after_byte : (byte bound : ℕ) (found : Option Halves) → IsShorter bound found →
+    IsShorter (suc bound) (option_map (preceded (byte ∷ [])) found)
 after_byte byte bound None shorter = tt
 after_byte byte bound (Some halves) shorter = omega (arith, shorter)
 
-where_tested : (test : Bool) (bound : ℕ) (found : Option Halves) → IsShorter bound found → IsShorter bound (if test then found else None)
+where_tested : (test : Bool) (bound : ℕ) (found : Option Halves) → IsShorter bound found →
+    IsShorter bound (if test then found else None)
 where_tested true bound found shorter = shorter
 where_tested false bound found shorter = tt
 
@@ -46,7 +49,8 @@ unfolding later_halves
 later_shorter [] = tt
 later_shorter (byte ∷ later) =
     after_byte byte (length later) _
-    (either (length later) _ _ (where_tested (is_line_feed byte) (length later) _ (at_front later)) (later_shorter later))
+    (either (length later) _ _ (where_tested (is_line_feed byte) (length later) _ (at_front later))
+    (later_shorter later))
 
 shorter : (text : List ℕ) → IsShorter (length text) (halves_of text)
 unfolding halves_of

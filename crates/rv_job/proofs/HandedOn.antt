@@ -4,7 +4,8 @@ use Rattle.std.specs.Prelude.{Result, Ok, Err, IfErr, IsErrAnd}
 use Rattle.rv_job.specs.declared.errors.SimError.{SimError}
 
 -- it is answered
-pub handed_on : {T : Type 0} (result : Result T SimError) (error : SimError) → IsErrAnd result (λ e. e ≡ error) → result ≡ Err error
+pub handed_on : {T : Type 0} (result : Result T SimError) (error : SimError) → IsErrAnd result (λ e. e ≡ error) →
+    result ≡ Err error
 handed_on (Ok value) error same = absurd same
 handed_on (Err e) error same = ap Err same
 

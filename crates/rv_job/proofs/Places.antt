@@ -7,10 +7,12 @@ use Rattle.std.proofs.lemmas.List.{take_more}
 use Rattle.rv_job.specs.Parts.{Halves, after_separator, preceded, later_halves, halves_at_front, is_line_feed}
 
 preceded_twice : (before : List ℕ) (byte : ℕ) (found : Option Halves)
-    → option_map (preceded before) (option_map (preceded (byte ∷ [])) found) ≡ option_map (preceded (before ++ byte ∷ [])) found
+    → option_map (preceded before) (option_map (preceded (byte ∷ [])) found)
+    ≡ option_map (preceded (before ++ byte ∷ [])) found
 preceded_twice before byte None = refl
 preceded_twice before byte (Some halves) =
-    ap (λ bytes. Some (record { before = bytes; after = halves.after })) (sym (append_assoc before (byte ∷ []) halves.before))
+    ap (λ bytes. Some (record { before = bytes; after = halves.after }))
+    (sym (append_assoc before (byte ∷ []) halves.before))
 
 -- no separator stands right after a byte
 no_separator : (byte : ℕ) (later : List ℕ) → (if is_line_feed byte then halves_at_front later else None) ≡ None
@@ -32,7 +34,8 @@ pub next_place : (text : List ℕ) (place : ℕ) → place < length text
 next_place text place below so_far none =
     let byte = get_or text place 0 in
     let later = drop (place + 1) text in
-    let opened : drop place text ≡ byte ∷ later = drop-cons text place 0 below ∙ ap (λ n. byte ∷ drop n text) (sym (add-one place)) in
+    let opened : drop place text ≡ byte ∷ later = drop-cons text place 0 below
+    ∙ ap (λ n. byte ∷ drop n text) (sym (add-one place)) in
     so_far ∙ ap (λ rest. option_map (preceded (take place text)) (later_halves rest)) opened
     ∙ ap (option_map (preceded (take place text))) (no_separator byte later none)
     ∙ preceded_twice (take place text) byte (later_halves later)

@@ -12,11 +12,13 @@ Consumes-nothing None = tt
 Consumes-nothing (Some bytes) = refl
 
 -- bytes that are read one after the other are read together
-pub Consumes-both : (a b c : Option (List ℕ)) (xs ys : List ℕ) → Consumes a b xs → Consumes b c ys → Consumes a c (xs ++ ys)
+pub Consumes-both : (a b c : Option (List ℕ)) (xs ys : List ℕ) → Consumes a b xs → Consumes b c ys →
+    Consumes a c (xs ++ ys)
 Consumes-both None b c xs ys first second = tt
 Consumes-both (Some a) None c xs ys first second = absurd first
 Consumes-both (Some a) (Some b) None xs ys first second = absurd second
-Consumes-both (Some a) (Some b) (Some c) xs ys first second = first ∙ ap (λ rest. xs ++ rest) second ∙ sym (append_assoc xs ys c)
+Consumes-both (Some a) (Some b) (Some c) xs ys first second = first ∙ ap (λ rest. xs ++ rest) second
+    ∙ sym (append_assoc xs ys c)
 
 -- where bytes were read, equal bytes were
 pub Consumes-same : (a b : Option (List ℕ)) (xs ys : List ℕ) → xs ≡ ys → Consumes a b xs → Consumes a b ys

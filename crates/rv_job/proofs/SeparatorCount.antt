@@ -31,15 +31,18 @@ first_line : (text : List ℕ) → slice_split is_line_feed text ≡ before_firs
 first_line [] = refl
 first_line (byte ∷ later) = go (first_line later) (is_line_feed byte) refl
   where
-    go : slice_split is_line_feed later ≡ before_first is_line_feed later ∷ later_lines later → (test : Bool) → is_line_feed byte ≡ test
-        → slice_split is_line_feed (byte ∷ later) ≡ before_first is_line_feed (byte ∷ later) ∷ later_lines (byte ∷ later)
+    go : slice_split is_line_feed later ≡ before_first is_line_feed later ∷ later_lines later → (test : Bool) →
+        is_line_feed byte ≡ test
+        → slice_split is_line_feed (byte ∷ later) ≡ before_first is_line_feed (byte ∷ later)
+        ∷ later_lines (byte ∷ later)
     go so_far true is = rw is refl
     go so_far false is =
         let place : 1 + position_or_len is_line_feed later ≡ suc (position_or_len is_line_feed later) = omega arith in
         rw (is, so_far, place) refl
 
 -- the count of a text, by its first line
-by_first_line : (text : List ℕ) → separator_count text ≡ (if is_separator (before_first is_line_feed text) then 1 else 0) + later_count text
+by_first_line : (text : List ℕ) →
+    separator_count text ≡ (if is_separator (before_first is_line_feed text) then 1 else 0) + later_count text
 by_first_line text =
     ap (count_by is_separator) (first_line text)
     ∙ sum_by-cons (λ line. if is_separator line then 1 else 0) (before_first is_line_feed text) (later_lines text)
@@ -52,10 +55,12 @@ after_first_line (byte ∷ later) = go (after_first_line later) (is_line_feed by
         → later_count (byte ∷ later) ≡ separator_count (after_first is_line_feed (byte ∷ later))
     go so_far true is = rw is refl
     go so_far false is =
-        let place : 1 + position_or_len is_line_feed later + 1 ≡ suc (position_or_len is_line_feed later + 1) = omega arith in
+        let place : 1 + position_or_len is_line_feed later + 1 ≡ suc (position_or_len is_line_feed later + 1) =
+        omega arith in
         rw (is, so_far, place) refl
 
-of_preceded : (bytes : List ℕ) (found : Option Halves) → count_from (option_map (preceded bytes) found) ≡ count_from found
+of_preceded : (bytes : List ℕ) (found : Option Halves) →
+    count_from (option_map (preceded bytes) found) ≡ count_from found
 of_preceded bytes None = refl
 of_preceded bytes (Some halves) = refl
 
@@ -76,7 +81,8 @@ later_counted [] = refl
 later_counted (byte ∷ later) = go (later_counted later) (is_line_feed byte) refl ∙ sym (of_preceded (byte ∷ []) _)
   where
     go : later_count later ≡ count_from (later_halves later) → (test : Bool) → is_line_feed byte ≡ test
-        → later_count (byte ∷ later) ≡ count_from (option_or (if is_line_feed byte then halves_at_front later else None) (later_halves later))
+        → later_count (byte ∷ later)
+        ≡ count_from (option_or (if is_line_feed byte then halves_at_front later else None) (later_halves later))
     go so_far true is = rw is (either_count later so_far)
     go so_far false is = rw is so_far
 
@@ -89,20 +95,23 @@ pub none_more : (text : List ℕ) → halves_of text ≡ None → separator_coun
 none_more text none = counted text ∙ ap count_from none
 
 -- a text with a separator has one more than what stands after its first one
-pub one_more : (text : List ℕ) (halves : Halves) → halves_of text ≡ Some halves → separator_count text ≡ 1 + separator_count halves.after
+pub one_more : (text : List ℕ) (halves : Halves) → halves_of text ≡ Some halves →
+    separator_count text ≡ 1 + separator_count halves.after
 one_more text halves is = counted text ∙ ap count_from is
 
 -- whether there is one more
 pub another : (rest : List ℕ) (found : Option read.Halves) (count : ℕ) → option_map halves_in found ≡ halves_of rest
     → count ≡ most_machines + separator_count rest → is_some found ≡ nat_lt most_machines count
 another rest None count is all = sym (le-ltb most_machines count (omega (arith, all, none_more rest (sym is))))
-another rest (Some halves) count is all = sym (lt-ltb most_machines count (omega (arith, all, one_more rest (halves_in halves) (sym is))))
+another rest (Some halves) count is all =
+    sym (lt-ltb most_machines count (omega (arith, all, one_more rest (halves_in halves) (sym is))))
 
 -- after descriptions stand the other separators
 pub counted_after : {text rest : List ℕ} {machines : List Values} → IsAfter text machines rest
     → separator_count text ≡ length machines + separator_count rest
 counted_after IsAfter.nothing = omega arith
-counted_after (IsAfter.another {machines = machines} {rest = rest} {machine = machine} {halves = halves} front is described) =
+counted_after (IsAfter.another {machines = machines} {rest = rest} {machine = machine}
+    {halves = halves} front is described) =
     let whole = counted_after front in
     let here = counted rest ∙ ap count_from is in
     omega (arith, whole, here, length-append machines (machine ∷ []))
@@ -113,7 +122,8 @@ machines_few : {text program : List ℕ} {machines : List Values} → Compares t
 machines_few (Compares.alone last described) few = omega arith
 machines_few (Compares.described front last some) few = let whole = counted_after front in omega (arith, whole, few)
 
-as_many : {program : List ℕ} {machines : List Values} {jobs : List Job} → AreLoaded program machines jobs → length jobs ≡ length machines
+as_many : {program : List ℕ} {machines : List Values} {jobs : List Job} → AreLoaded program machines jobs →
+    length jobs ≡ length machines
 as_many AreLoaded.nothing = refl
 as_many (AreLoaded.another {machines = machines} {jobs = jobs} {machine = machine} {job = job} loaded here) =
     let before = as_many loaded in

@@ -24,7 +24,8 @@ gap named = codes " "
 -- the line of a description's fault, with the key that it names
 unfoldable pub description_line : DescriptionError → List ℕ
 description_line error =
-    codes "error: description: " ++ (description_fault_name error ++ (gap error ++ (text_at (place_of error) ++ codes "\n")))
+    codes "error: description: "
+    ++ (description_fault_name error ++ (gap error ++ (text_at (place_of error) ++ codes "\n")))
 
 -- the line of the fault of one of several descriptions, with its number and the key that it names
 unfoldable pub described_line : ℕ → DescriptionError → List ℕ

@@ -10,7 +10,8 @@ use Rattle.rv_log.specs.Statement.{is_printing}
 abbrev front-of : ℕ → List ℕ → List ℕ
 front-of count text = take count text ++ plain_text (drop count text)
 
-front-cons : (byte : ℕ) (text : List ℕ) (prints : Bool) → is_printing byte ≡ prints → front-of (prefix_len is_printing text) text ≡ plain_text text
+front-cons : (byte : ℕ) (text : List ℕ) (prints : Bool) → is_printing byte ≡ prints →
+    front-of (prefix_len is_printing text) text ≡ plain_text text
     → front-of (prefix_len is_printing (byte ∷ text)) (byte ∷ text) ≡ plain_text (byte ∷ text)
 unfolding plain_byte
 front-cons byte text true prints rest =
@@ -18,10 +19,12 @@ front-cons byte text true prints rest =
     (λ i. front-of (cond (prints i) (1 + prefix_len is_printing text) 0) (byte ∷ text))
     ∙ ap (λ n. front-of n (byte ∷ text)) later ∙ ap (λ l. byte ∷ l) rest
     ∙ sym (ap (λ b. (cond b (byte ∷ []) (if byte == 9 then codes " " else codes "?")) ++ plain_text text) prints)
-front-cons byte text false prints rest = ap (λ b. front-of (cond b (1 + prefix_len is_printing text) 0) (byte ∷ text)) prints
+front-cons byte text false prints rest =
+    ap (λ b. front-of (cond b (1 + prefix_len is_printing text) 0) (byte ∷ text)) prints
 
 -- the printing characters in front are written as they are
-pub plain-front : (text : List ℕ) → take (prefix_len is_printing text) text ++ plain_text (drop (prefix_len is_printing text) text) ≡ plain_text text
+pub plain-front : (text : List ℕ) → take (prefix_len is_printing text) text
+    ++ plain_text (drop (prefix_len is_printing text) text) ≡ plain_text text
 plain-front [] = refl
 plain-front (byte ∷ text) = front-cons byte text (is_printing byte) refl (plain-front text)
 

@@ -26,18 +26,21 @@ unfolding words_after
 some-after before w some = sym (ap (λ (b : Bool). if b then before else codes ", ") (ne_eqb (cycles_of w) 0 some))
 
 waits-by : (none : Bool) (before : List ℕ) (w : Wait) (ws : List Wait)
-    → (if none then [] else wait_text before w) ++ waits_text (if none then before else codes ", ") ws ≡ (if none then waits_text before ws else wait_text before w ++ waits_text (codes ", ") ws)
+    → (if none then [] else wait_text before w) ++ waits_text (if none then before else codes ", ") ws
+    ≡ (if none then waits_text before ws else wait_text before w ++ waits_text (codes ", ") ws)
 waits-by true before w ws = refl
 waits-by false before w ws = refl
 
-waits-next : (before : List ℕ) (w : Wait) (ws : List Wait) → one_text before w ++ waits_text (words_after before w) ws ≡ waits_text before (w ∷ ws)
+waits-next : (before : List ℕ) (w : Wait) (ws : List Wait) → one_text before w ++ waits_text (words_after before w) ws
+    ≡ waits_text before (w ∷ ws)
 unfolding one_text words_after waits_text
 waits-next before w ws = waits-by (cycles_of w == 0) before w ws
 
 -- the first of some, and then the others after its words
 pub waits-after : {words : List ℕ} (before : List ℕ) (w : Wait) (ws : List Wait) {rest : List ℕ} →
     words ≡ words_after before w → rest ≡ waits_text words ws → one_text before w ++ rest ≡ waits_text before (w ∷ ws)
-waits-after before w ws after same = ap (λ end. one_text before w ++ end) (same ∙ ap (λ words. waits_text words ws) after) ∙ waits-next before w ws
+waits-after before w ws after same =
+    ap (λ end. one_text before w ++ end) (same ∙ ap (λ words. waits_text words ws) after) ∙ waits-next before w ws
 
 -- the last one
 pub waits-last : (before : List ℕ) (w : Wait) → one_text before w ≡ waits_text before (w ∷ [])

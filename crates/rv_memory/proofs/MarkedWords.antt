@@ -16,14 +16,16 @@ use Rattle.rv_memory.specs.Stale.{StaleWords, AreCovered, is_covered}
 use Rattle.rv_memory.specs.StaleMarks.{marked_words, marks_of, words_of}
 
 -- no word was marked in a round that is to come
-no_marks : (first round : ℕ) (rounds : List ℕ) → All (λ r. r < round) rounds → marked_words first (marks_of round rounds) ≡ []
+no_marks : (first round : ℕ) (rounds : List ℕ) → All (λ r. r < round) rounds →
+    marked_words first (marks_of round rounds) ≡ []
 no_marks first round [] all = refl
 no_marks first round (r ∷ rounds) all =
     let before = All-head (λ r. r < round) r rounds all in
     rw (ne_eqb r round (λ e. omega arith)) (no_marks (first + 1) round rounds (All-tail (λ r. r < round) r rounds all))
 
 -- the set of the words that were marked in a round after all rounds so far is empty
-pub words_of-later : (first round : ℕ) (rounds : List ℕ) → All (λ r. r < round) rounds → words_of first round rounds ≡ set.empty
+pub words_of-later : (first round : ℕ) (rounds : List ℕ) → All (λ r. r < round) rounds →
+    words_of first round rounds ≡ set.empty
 words_of-later first round rounds all = rw (no_marks first round rounds all) refl
 
 -- where every word has round 0, none was marked in round 1
@@ -32,7 +34,8 @@ words_of-none first n = words_of-later first 1 (replicate n 0) (All-replicate (�
 
 -- where no word is stale, each is covered
 pub none_are_covered : (stale : StaleWords) → stale.words ≡ set.empty → AreCovered stale
-none_are_covered stale none word found = absurd (true≢false (sym found ∙ ap (λ s. set.contains s word) none ∙ set.contains-empty nat_cmp word))
+none_are_covered stale none word found =
+    absurd (true≢false (sym found ∙ ap (λ s. set.contains s word) none ∙ set.contains-empty nat_cmp word))
 
 abbrev has : ℕ → List ℕ → Bool
 has q words = list_any (λ y. nat_eq y q) words
@@ -44,7 +47,8 @@ has_below first (true ∷ marks) q below = grind (arith, nat_tests, has_below (f
 has_below first (false ∷ marks) q below = has_below (first + 1) marks q (omega arith)
 
 -- a word is there where its mark is set
-has_at : (first : ℕ) (marks : List Bool) (i q : ℕ) → q ≡ first + i → has q (marked_words first marks) ≡ get_or marks i false
+has_at : (first : ℕ) (marks : List Bool) (i q : ℕ) → q ≡ first + i → has q (marked_words first marks)
+    ≡ get_or marks i false
 has_at first [] i q at = refl
 has_at first (true ∷ marks) zero q at = grind (arith, nat_tests)
 has_at first (true ∷ marks) (suc i) q at = grind (arith, nat_tests, has_at (first + 1) marks i q (omega arith))
@@ -56,9 +60,11 @@ abbrev marked : ℕ → List Bool → set.FinSet nat_cmp
 marked first marks = set.from_list (marked_words first marks)
 
 contains_below : (first : ℕ) (marks : List Bool) (q : ℕ) → q < first → set.contains (marked first marks) q ≡ false
-contains_below first marks q below = set.contains-from_list_nat (marked_words first marks) q ∙ has_below first marks q below
+contains_below first marks q below = set.contains-from_list_nat (marked_words first marks) q
+    ∙ has_below first marks q below
 
-contains_at : (first : ℕ) (marks : List Bool) (i q : ℕ) → q ≡ first + i → set.contains (marked first marks) q ≡ get_or marks i false
+contains_at : (first : ℕ) (marks : List Bool) (i q : ℕ) → q ≡ first + i → set.contains (marked first marks) q
+    ≡ get_or marks i false
 contains_at first marks i q at = set.contains-from_list_nat (marked_words first marks) q ∙ has_at first marks i q at
 
 insert-mark : (first : ℕ) (marks : List Bool) (i w : ℕ) → i < length marks → w ≡ first + i →
@@ -66,13 +72,16 @@ insert-mark : (first : ℕ) (marks : List Bool) (i w : ℕ) → i < length marks
 insert-mark first marks i w within at =
     let before = marked first marks in
     set.same_set nat_cmp_total set.nat_cmp-IsAntisymmetric _ _ (λ q.
-    let added = set.contains-insert nat_cmp_total before w q ∙ ap (λ b. b || set.contains before q) (unsigned_tied q w) in
+    let added = set.contains-insert nat_cmp_total before w q
+    ∙ ap (λ b. b || set.contains before q) (unsigned_tied q w) in
     elim (cases_lt q first) [
-      | inl low ↦ contains_below first (set marks i true) q low ∙ sym (added ∙ or_from _ _ (ne_eqb q w (λ e. omega arith)) (contains_below first marks q low))
+      | inl low ↦ contains_below first (set marks i true) q low
+          ∙ sym (added ∙ or_from _ _ (ne_eqb q w (λ e. omega arith)) (contains_below first marks q low))
       | inr high ↦
           let after = contains_at first (set marks i true) (q - first) q (omega arith) in
           elim (cases_eq q w) [
-            | inl same ↦ after ∙ get_or-set_at marks i (q - first) true false (omega arith) within ∙ sym (added ∙ or_left _ _ (eq-eqb q w same))
+            | inl same ↦ after ∙ get_or-set_at marks i (q - first) true false (omega arith) within
+                ∙ sym (added ∙ or_left _ _ (eq-eqb q w same))
             | inr other ↦
                 after
                 ∙ get_or-set_other marks i (q - first) true false (λ e. other (omega arith))
@@ -82,7 +91,8 @@ insert-mark first marks i w within at =
     ])
 
 -- what the set of the words marked in a round has, and what one more mark adds to it
-pub contains_word_below : (first round : ℕ) (rounds : List ℕ) (q : ℕ) → q < first → set.contains (words_of first round rounds) q ≡ false
+pub contains_word_below : (first round : ℕ) (rounds : List ℕ) (q : ℕ) → q < first →
+    set.contains (words_of first round rounds) q ≡ false
 contains_word_below first round rounds q below = contains_below first (marks_of round rounds) q below
 
 -- a word was marked in a round exactly where its place has that round
@@ -107,7 +117,8 @@ words_of-within first round rounds q found =
       | inr high ↦
           elim (cases_lt (q - first) (length rounds)) [
             | inl inside ↦ (high, omega arith)
-            | inr past ↦ absurd (true≢false (sym found ∙ contains_word_past first round rounds (q - first) q (omega arith) past))
+            | inr past ↦ absurd (true≢false (sym found ∙ contains_word_past first round rounds (q - first)
+                q (omega arith) past))
           ]
     ]
 
@@ -117,7 +128,8 @@ pub insert_word : (first round : ℕ) (rounds : List ℕ) (i w : ℕ) → i < le
 insert_word first round rounds i w within at =
     let long = length-map rounds (λ r. nat_eq r round) in
     let moved : marks_of round (set rounds i round) ≡ set (marks_of round rounds) i true =
-    map-set (λ r. nat_eq r round) rounds i round ∙ ap (λ b. set (marks_of round rounds) i b) (eq-eqb round round refl) in
+    map-set (λ r. nat_eq r round) rounds i round
+    ∙ ap (λ b. set (marks_of round rounds) i b) (eq-eqb round round refl) in
     rw moved (insert-mark first (marks_of round rounds) i w (omega arith) at)
 
 -- an address that is covered

@@ -20,7 +20,8 @@ pub drop-joined : {X : Type 0} (n : ℕ) (front back : List X) → length front 
 drop-joined n front back is = ap (λ k. drop k (front ++ back)) (sym is) ∙ drop-append_seam front back
 
 -- what comes after so many, moved over them
-pub moved_to_front : {X : Type 0} (xs : List X) (n : ℕ) → n ≤ length xs → take (length xs - n) (paste xs 0 (drop n xs) (length xs - n)) ≡ drop n xs
+pub moved_to_front : {X : Type 0} (xs : List X) (n : ℕ) → n ≤ length xs →
+    take (length xs - n) (paste xs 0 (drop n xs) (length xs - n)) ≡ drop n xs
 moved_to_front xs n within =
     let left : length xs - n ≡ 0 + (length xs - n) = omega arith in
     ap (λ k. take k (paste xs 0 (drop n xs) (length xs - n))) left
@@ -28,7 +29,8 @@ moved_to_front xs n within =
     ∙ take_all (length xs - n) (drop n xs) (omega (arith, length-drop n xs))
 
 -- those in flight are none of the first ones that ended
-pub open-after_first : (rows : List Passage) → filter is_in_flight (drop (position_or_len is_in_flight rows) rows) ≡ filter is_in_flight rows
+pub open-after_first : (rows : List Passage) → filter is_in_flight (drop (position_or_len is_in_flight rows) rows)
+    ≡ filter is_in_flight rows
 open-after_first [] = refl
 open-after_first (p ∷ ps) = elim (cases_Bool (is_in_flight p)) [
   | inl flies ↦ rw flies (rw flies refl)
@@ -46,9 +48,11 @@ first-within (p ∷ ps) = elim (cases_Bool (is_in_flight p)) [
 ]
 
 -- where none is in flight, all come before the first that is
-pub none_in_flight : (rows : List Passage) → position is_in_flight rows ≡ None → position_or_len is_in_flight rows ≡ length rows
+pub none_in_flight : (rows : List Passage) → position is_in_flight rows ≡ None →
+    position_or_len is_in_flight rows ≡ length rows
 none_in_flight rows none = elim (cases_Bool (nat_lt (position_or_len is_in_flight rows) (length rows))) [
-  | inl here ↦ let some : Some (position_or_len is_in_flight rows) ≡ None = rw here at none in absurd (none-some _ (sym some))
+  | inl here ↦ let some : Some (position_or_len is_in_flight rows) ≡ None = rw here at none in
+      absurd (none-some _ (sym some))
   | inr past ↦ omega (arith, ltb-false _ _ past, first-within rows)
 ]
 
@@ -56,7 +60,8 @@ none_in_flight rows none = elim (cases_Bool (nat_lt (position_or_len is_in_fligh
 pub open-all : (rows : List Passage) → list_all is_in_flight rows ≡ true → filter is_in_flight rows ≡ rows
 open-all [] all = refl
 open-all (p ∷ ps) all = elim (cases_Bool (is_in_flight p)) [
-  | inl flies ↦ let rest : list_all is_in_flight ps ≡ true = rw flies at all in rw flies (ap (λ l. p ∷ l) (open-all ps rest))
+  | inl flies ↦ let rest : list_all is_in_flight ps ≡ true = rw flies at all in
+      rw flies (ap (λ l. p ∷ l) (open-all ps rest))
   | inr ended ↦ let none : false ≡ true = rw ended at all in cc
 ]
 
@@ -68,7 +73,8 @@ open-few (p ∷ ps) = elim (cases_Bool (is_in_flight p)) [
 ]
 
 -- where as many are in flight as there are, all are
-pub all-open : (rows : List Passage) → length rows ≤ length (filter is_in_flight rows) → list_all is_in_flight rows ≡ true
+pub all-open : (rows : List Passage) → length rows ≤ length (filter is_in_flight rows) →
+    list_all is_in_flight rows ≡ true
 all-open [] as_many = refl
 all-open (p ∷ ps) as_many = elim (cases_Bool (is_in_flight p)) [
   | inl flies ↦
@@ -98,6 +104,7 @@ buffers-open rob front = entries-open rob.entries where
   words-open [] = refl
   words-open (w ∷ ws) = words-open ws
 
-  entries-open : (entries : List Entry) → list_all is_in_flight (map of_entry entries ++ map of_fetched front.entries) ≡ true
+  entries-open : (entries : List Entry) →
+      list_all is_in_flight (map of_entry entries ++ map of_fetched front.entries) ≡ true
   entries-open [] = words-open front.entries
   entries-open (e ∷ es) = entries-open es

@@ -29,7 +29,8 @@ History-append ended after = after
 History-append (cycled cycle rest) after = cycled cycle (History-append rest after)
 
 -- and the other way round
-pub History-split : {arrivals : List Arrival} {old new : GuidedHardware} (some more : List Moment) → History arrivals old (some ++ more) new →
+pub History-split : {arrivals : List Arrival} {old new : GuidedHardware} (some more : List Moment) →
+    History arrivals old (some ++ more) new →
     (middle : GuidedHardware) × History arrivals old some middle × History arrivals middle more new
 History-split {old = old} [] more passes = (old, ended, passes)
 History-split (moment ∷ some) more (cycled cycle rest) =
@@ -45,7 +46,8 @@ NoneStops-append : (some more : List Report) → NoneStops some → NoneStops mo
 NoneStops-append [] more none others = others
 NoneStops-append (report ∷ some) more none others = (none.0, NoneStops-append some more none.1 others)
 
-ends_after : {reason : Stop} (some more : List Report) → NoneStops some → EndsWith reason more → EndsWith reason (some ++ more)
+ends_after : {reason : Stop} (some more : List Report) → NoneStops some → EndsWith reason more →
+    EndsWith reason (some ++ more)
 ends_after some more none ends = record {
   earlier = some ++ ends.earlier;
   last = ends.last;
@@ -68,11 +70,13 @@ stops_after from limit some more new stop.Exhausted none so_many stops =
 -- a run of so many cycles, and one that goes on from its end
 pub run_on : {arrivals : List Arrival} {from limit : ℕ} {old middle new : GuidedHardware} {some more : List
     Moment} {reason : Stop} → IsEndedRun arrivals from old some middle stop.Limit
-    → IsEndedRun arrivals limit middle more new reason → IsEndedRun arrivals (from + limit) old (some ++ more) new reason
+    → IsEndedRun arrivals limit middle more new reason →
+    IsEndedRun arrivals (from + limit) old (some ++ more) new reason
 run_on {from = from} {limit = limit} {new = new} {some = some} {more = more} {reason = reason} run after = record {
   passes = History-append run.passes after.passes;
   stops = subst (λ reports. IsStop (from + limit) reports new.hardware reason) (sym (reports_of-append some more))
-      (stops_after from limit (reports_of some) (reports_of more) new.hardware reason run.stops.0 run.stops.1 after.stops);
+      (stops_after from limit (reports_of some) (reports_of more) new.hardware reason run.stops.0
+      run.stops.1 after.stops);
 }
 
 stops_earlier : (limit more : ℕ) (reports : List Report) (new : Hardware) (reason : Stop) → reason ≢ stop.Limit →
@@ -87,10 +91,15 @@ pub run_earlier : {arrivals : List Arrival} {limit : ℕ} {old new : GuidedHardw
     Moment} {reason : Stop} (more : ℕ) → reason ≢ stop.Limit → IsEndedRun arrivals limit old moments new reason
     → IsEndedRun arrivals (limit + more) old moments new reason
 run_earlier {limit = limit} {new = new} {moments = moments} {reason = reason} more other run =
-    record { passes = run.passes; stops = stops_earlier limit more (reports_of moments) new.hardware reason other run.stops }
+    record {
+      passes = run.passes;
+      stops = stops_earlier limit more (reports_of moments) new.hardware
+          reason other run.stops;
+    }
 
 -- a run has no more cycles than its limit
-pub length-run : (limit : ℕ) (reports : List Report) (new : Hardware) (reason : Stop) → IsStop limit reports new reason → length reports ≤ limit
+pub length-run : (limit : ℕ) (reports : List Report) (new : Hardware) (reason : Stop) →
+    IsStop limit reports new reason → length reports ≤ limit
 length-run limit reports new stop.Limit stops = omega (arith, stops.1)
 length-run limit reports new stop.Breakpoint stops = omega (arith, stops.1)
 length-run limit reports new (stop.Stale pc) stops = omega (arith, stops.1)

@@ -20,7 +20,8 @@ if_ok_by (Ok value) then fact = then value fact
 if_ok_by (Err error) then fact = tt
 
 -- no cycle yet
-pub followed_nothing : (keep : Passages → Passages) (h : Hardware) (table : Passages) → table ≡ table_at h → length table.rows ≤ 288 →
+pub followed_nothing : (keep : Passages → Passages) (h : Hardware) (table : Passages) → table ≡ table_at h →
+    length table.rows ≤ 288 →
     HasFollowed keep h [] h table
 followed_nothing keep h table is few =
     let here : length (numbered_from 0 (in_flight h)) ≤ 288 = subst (λ (t : Passages). length t.rows ≤ 288) is few in
@@ -34,11 +35,16 @@ followed_nothing keep h table is few =
 pub can_count : {keep : Passages → Passages} {first now : Hardware} {moments : List Moment} {table : Passages} →
     HasFollowed keep first moments now table →
     now.cycle < 2 ^ 40 → CanCount table
-can_count followed counted = record { fetched = omega (arith, followed.fetched, counted); retired = omega (arith, followed.retired, counted) }
+can_count followed counted = record {
+  fetched = omega (arith, followed.fetched, counted);
+  retired = omega (arith, followed.retired, counted);
+}
 
 -- one more cycle, of which the table takes the steps
-module _ {keep : Passages → Passages} {arrivals : List Arrival} {first now : GuidedHardware} {moments : List Moment} {table : Passages}
-    (passes : History arrivals first moments now) (followed : HasFollowed keep first.hardware moments now.hardware table) (last : Moment)
+module _ {keep : Passages → Passages} {arrivals : List Arrival} {first now : GuidedHardware}
+    {moments : List Moment} {table : Passages}
+    (passes : History arrivals first moments now) (followed : HasFollowed keep first.hardware moments now.hardware
+    table) (last : Moment)
     {cycle : ℕ} {steps : List Step} (number : cycle ≡ now.hardware.cycle) (steps_are : steps ≡ last.report.steps)
     {full : Passages} (takes : full ≡ after_cycle cycle steps last.after table) where
   -- the table then has the passages of that cycle
@@ -72,7 +78,11 @@ roomy_again table full opened few rows interrupts = record {
 -- before the first cycle a table of the hardware, roomy and with few rows, has what is in flight
 pub open_nothing : (h : Hardware) (table : Table) → passages_of table ≡ table_at h → IsRoomy table →
     length (passages_of table).rows ≤ 288 → HasOpen h [] h table
-open_nothing h table is roomy few = record { followed = followed_nothing still_open h (passages_of table) is few; few = few; room = roomy }
+open_nothing h table is roomy few = record {
+  followed = followed_nothing still_open h (passages_of table) is few;
+  few = few;
+  room = roomy;
+}
 
 module _ {first now : Hardware} {moments : List Moment} {table : Table} (so_far : HasOpen first moments now table) where
   -- at the end of a cycle there is no more than was in flight before it and fetched in it
@@ -81,10 +91,19 @@ module _ {first now : Hardware} {moments : List Moment} {table : Table} (so_far 
       → full.fetched ≤ table.fetched + 288 → length (passages_of full).rows ≤ 576
   few_rows cycle steps after full takes more =
       let same = steps-within steps after.pc (passages_of table) in
-      omega (arith, ap (λ (t : Passages). t.fetched) takes, ap (λ (t : Passages). length t.rows) takes, same.rows, same.fetched, so_far.few, more)
+      omega (
+        arith,
+        ap (λ (t : Passages). t.fetched) takes,
+        ap (λ (t : Passages). length t.rows) takes,
+        same.rows,
+        same.fetched,
+        so_far.few,
+        more,
+      )
 
 -- one more cycle
-module _ {arrivals : List Arrival} {first now : GuidedHardware} {moments : List Moment} {table : Table} (passes : History arrivals first moments now)
+module _ {arrivals : List Arrival} {first now : GuidedHardware} {moments : List Moment} {table : Table}
+    (passes : History arrivals first moments now)
     (so_far : HasOpen first.hardware moments now.hardware table) (last : Moment)
     {cycle : ℕ} {steps : List Step} (number : cycle ≡ now.hardware.cycle) (steps_are : steps ≡ last.report.steps)
     (full : Table) (takes : passages_of full ≡ after_cycle cycle steps last.after (passages_of table)) where
@@ -92,11 +111,13 @@ module _ {arrivals : List Arrival} {first now : GuidedHardware} {moments : List 
   pub open_on : last.after.cycle ≡ now.hardware.cycle + 1 → (kept : Table) →
       passages_of kept ≡ still_open (passages_of full) → full.fetched ≤ table.fetched + 288 →
       full.retired ≤ table.retired + 8
-      → length (still_open (passages_of full)).rows ≤ 288 → 576 ≤ vec_capacity kept.rows → 8 ≤ vec_capacity kept.interrupts
+      → length (still_open (passages_of full)).rows ≤ 288 → 576 ≤ vec_capacity kept.rows →
+      8 ≤ vec_capacity kept.interrupts
       → HasOpen first.hardware (moments ++ last ∷ []) last.after kept
   open_on one_more kept opened fetched retired few rows interrupts = record {
     followed = followed_on passes so_far.followed last number steps_are takes one_more (passages_of kept) opened
-        (omega (arith, fetched, ap (λ (t : Passages). t.fetched) opened)) (omega (arith, retired, ap (λ (t : Passages). t.retired) opened));
+        (omega (arith, fetched, ap (λ (t : Passages). t.fetched) opened))
+        (omega (arith, retired, ap (λ (t : Passages). t.retired) opened));
     few = omega (arith, few, ap (λ (t : Passages). length t.rows) opened);
     room = roomy_again kept (passages_of full) opened few rows interrupts;
   }

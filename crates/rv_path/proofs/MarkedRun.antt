@@ -74,7 +74,8 @@ marking_nothing first arrivals marker rows rows_are few path cycles numbers fetc
     }
 
 -- room for one more cycle, where no event is dropped once the window begins
-pub marking_still : (marker : Marker) (path' : Path) (seen : Watched) → IsKnown path' (known_of seen.first.hardware (cycles_seen seen))
+pub marking_still : (marker : Marker) (path' : Path) (seen : Watched) →
+    IsKnown path' (known_of seen.first.hardware (cycles_seen seen))
     → (marker.from ≤ marker.cycles → path'.window.events.items ≡ marker.path.window.events.items)
     → IsMarking marker seen → IsMarking (record marker { path = path' }) seen
 marking_still marker path' seen path same is = record {
@@ -95,17 +96,20 @@ marking_still marker path' seen path same is = record {
       (comes_in_time seen.first.hardware seen.moments).events)
 
 -- the count of what was fetched can go on
-pub fits : {seen : Watched} {cycle : ShownCycle} (next : IsNextCycle seen cycle) (marker : Marker) → IsMarking marker seen
+pub fits : {seen : Watched} {cycle : ShownCycle} (next : IsNextCycle seen cycle) (marker : Marker) →
+    IsMarking marker seen
     → marker.numbering.fetched + 576 < 2 ^ 64
 fits {seen = seen} next marker is =
     let counted = moments_counted next.shown.passes in
     omega (arith, is.few, counted, length-reports_of seen.moments, next.shown.number, next.shown.counted)
 
 -- one more cycle
-module _ {seen : Watched} {cycle : ShownCycle} (next : IsNextCycle seen cycle) (old new : Marker) (is : IsMarking old seen) where
+module _ {seen : Watched} {cycle : ShownCycle} (next : IsNextCycle seen cycle) (old new : Marker)
+    (is : IsMarking old seen) where
   cycles-is : cycle.progress.now.cycles ≡ length seen.moments + 1
   cycles-is =
-      ap (λ (p : Progress). p.cycles) next.shown.progress_is ∙ length-append (reports_of seen.moments) (next.shown.report ∷ [])
+      ap (λ (p : Progress). p.cycles) next.shown.progress_is
+      ∙ length-append (reports_of seen.moments) (next.shown.report ∷ [])
       ∙ ap (λ n. n + 1) (length-reports_of seen.moments)
 
   -- the marks are under way after one cycle more
@@ -121,9 +125,11 @@ module _ {seen : Watched} {cycle : ShownCycle} (next : IsNextCycle seen cycle) (
     path = path;
     cycles = now ∙ sym more;
     events = subst (λ (n : ℕ). HasAllMarked n new.path.window events') (sym from)
-        (subst (HasAllMarked old.from new.path.window) (ap (λ (k : Known). k.events) (known-shown next old.path is.path))
+        (subst (HasAllMarked old.from new.path.window)
+        (ap (λ (k : Known). k.events) (known-shown next old.path is.path))
         (has_all_followed old.from made old.path.window new.path.window known.events followed is.events));
-    numbering = subst (λ (n : ℕ). IsNumbering new.numbering (begun_at n)) (sym from) (by_cycles (le_or_lt new.cycles old.from)).0;
+    numbering = subst (λ (n : ℕ). IsNumbering new.numbering (begun_at n)) (sym from)
+        (by_cycles (le_or_lt new.cycles old.from)).0;
     few = omega (arith, more, (by_cycles (le_or_lt new.cycles old.from)).1, is.few);
   } where
     known : Known
@@ -156,19 +162,24 @@ module _ {seen : Watched} {cycle : ShownCycle} (next : IsNextCycle seen cycle) (
     )
 
 -- a run that would go on up to a limit that no run comes to
-ended-sooner : (limit other cycles : ℕ) (reports : List Report) (new : Hardware) (reason : Stop) → length reports ≤ cycles → cycles < limit
+ended-sooner : (limit other cycles : ℕ) (reports : List Report) (new : Hardware) (reason : Stop) →
+    length reports ≤ cycles → cycles < limit
     → cycles < other
     → IsStop limit reports new reason → IsStop other reports new reason
-ended-sooner limit other cycles reports new stop.Limit few below above stops = absurd (omega (arith, few, below, stops.1))
+ended-sooner limit other cycles reports new stop.Limit few below above stops =
+    absurd (omega (arith, few, below, stops.1))
 ended-sooner limit other cycles reports new stop.Breakpoint few below above stops = (stops.0, omega (arith, few, above))
 ended-sooner limit other cycles reports new (stop.Stale pc) few below above stops = (stops.0, omega (arith, few, above))
-ended-sooner limit other cycles reports new stop.Exhausted few below above stops = (stops.0, omega (arith, few, above), stops.2)
+ended-sooner limit other cycles reports new stop.Exhausted few below above stops =
+    (stops.0, omega (arith, few, above), stops.2)
 
 -- the marks of the run
 pub marked_run : {arrivals : List Arrival} {limit from cycles : ℕ} {old new : GuidedHardware} {moments : List
     Moment} {reason : Stop} (marker : Marker) (path : List Event) (marks : List Mark)
-    → IsMarking marker (watched arrivals old moments new) → marker.from ≡ from → IsEndedRun arrivals limit old moments new reason
-    → (from + cycles < 2 ^ 64 → limit ≡ from + cycles) → (2 ^ 64 ≤ from + cycles → limit ≡ 2 ^ 64 - 1) → new.hardware.cycle ≤ 2 ^ 40
+    → IsMarking marker (watched arrivals old moments new) → marker.from ≡ from →
+    IsEndedRun arrivals limit old moments new reason
+    → (from + cycles < 2 ^ 64 → limit ≡ from + cycles) → (2 ^ 64 ≤ from + cycles → limit ≡ 2 ^ 64 - 1) →
+    new.hardware.cycle ≤ 2 ^ 40
     → path ≡ path_to (kept_events marker.path.window) (Some (last_left marker.path.before.left).at)
     → marks ≡ marks_of from (number_by marker.numbering.numbers.items marker.numbering.fetched) path
     → IsMarked arrivals from cycles old new marks
@@ -178,8 +189,10 @@ marked_run {arrivals} {limit} {from} {cycles} {old} {new} {moments} {reason} mar
       stop = reason;
       run = ended (le_or_lt (2 ^ 64) (from + cycles));
       marks_are =
-          marks_are ∙ ap (marks_of from number) path_is ∙ marks-kept from number marker.path.window known.events wanted has
-          ∙ (λ i. marks_of from (number_by (numbers i) (fetched i)) (path_to known.events (Some (last_left (before i).left).at)));
+          marks_are ∙ ap (marks_of from number) path_is
+          ∙ marks-kept from number marker.path.window known.events wanted has
+          ∙ (λ i. marks_of from (number_by (numbers i) (fetched i))
+          (path_to known.events (Some (last_left (before i).left).at)));
     } where
       known : Known
       known = known_of old.hardware (cycles_seen (watched arrivals old moments new))
@@ -194,9 +207,11 @@ marked_run {arrivals} {limit} {from} {cycles} {old} {new} {moments} {reason} mar
       has = subst (λ (n : ℕ). HasAllMarked n marker.path.window known.events) from_is is.events
 
       numbered : IsNumbering marker.numbering (passages_after still_open old.hardware (take from moments))
-      numbered = subst (λ (n : ℕ). IsNumbering marker.numbering (passages_after still_open old.hardware (take n moments))) from_is is.numbering
+      numbered = subst (λ (n : ℕ). IsNumbering marker.numbering
+          (passages_after still_open old.hardware (take n moments))) from_is is.numbering
 
-      numbers : marker.numbering.numbers.items ≡ row_numbers (passages_after still_open old.hardware (take from moments)).rows
+      numbers : marker.numbering.numbers.items
+          ≡ row_numbers (passages_after still_open old.hardware (take from moments)).rows
       numbers = numbered.numbers
 
       fetched : marker.numbering.fetched ≡ (passages_after still_open old.hardware (take from moments)).fetched
@@ -208,7 +223,8 @@ marked_run {arrivals} {limit} {from} {cycles} {old} {new} {moments} {reason} mar
       few : length (reports_of moments) ≤ 2 ^ 40
       few = omega (arith, moments_counted run.passes, within)
 
-      ended : (2 ^ 64 ≤ from + cycles) ⊎ (from + cycles < 2 ^ 64) → IsEndedRun arrivals (from + cycles) old moments new reason
+      ended : (2 ^ 64 ≤ from + cycles) ⊎ (from + cycles < 2 ^ 64) →
+          IsEndedRun arrivals (from + cycles) old moments new reason
       ended (inl over) = record {
         passes = run.passes;
         stops =

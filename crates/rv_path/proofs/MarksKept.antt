@@ -19,6 +19,7 @@ marks_append from number xs ys =
     ∙ map-append (mark_of from number) (filter (is_marked from) xs) (filter (is_marked from) ys)
 
 -- the marks of a path are those of its part in a window
-pub marks-kept : (from : ℕ) (number : ℕ → ℕ) (window : Window) (all : List Event) (wanted : Option Point) → HasAllMarked from window all
+pub marks-kept : (from : ℕ) (number : ℕ → ℕ) (window : Window) (all : List Event) (wanted : Option Point) →
+    HasAllMarked from window all
     → marks_of from number (path_to (kept_events window) wanted) ≡ marks_of from number (path_to all wanted)
 marks-kept from number window all wanted has = ap (map (mark_of from number)) (marked-kept from window all wanted has)

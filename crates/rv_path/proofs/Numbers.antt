@@ -30,7 +30,8 @@ record IsAsLong (old new : Passages) : Type 0 where
   rows : length new.rows ≡ length old.rows
   fetched : new.fetched ≡ old.fetched
 
-length-by : (here : Bool) (change : Passage → Passage) (p : Passage) (ps : List Passage) → length (with_oldest change ps) ≡ length ps
+length-by : (here : Bool) (change : Passage → Passage) (p : Passage) (ps : List Passage) →
+    length (with_oldest change ps) ≡ length ps
     → length (if here then change p ∷ ps else p ∷ with_oldest change ps) ≡ suc (length ps)
 length-by true change p ps others = refl
 length-by false change p ps others = ap suc others
@@ -40,8 +41,12 @@ length-with_oldest change [] = refl
 length-with_oldest change (p ∷ ps) = length-by (is_in_flight p) change p ps (length-with_oldest change ps)
 
 step-as_long : (s : Step) (next : ℕ) (t : Passages) → IsAsLong t (with_step s next t)
-step-as_long (step.Retired row) next t = record { rows = length-with_oldest (retired_by row t.retired next) t.rows; fetched = refl }
-step-as_long (step.Trap pc cause value cycle) next t = record { rows = length-with_oldest (trapped_by cause cycle) t.rows; fetched = refl }
+step-as_long (step.Retired row) next t = record {
+  rows = length-with_oldest (retired_by row t.retired next) t.rows;
+  fetched = refl;
+}
+step-as_long (step.Trap pc cause value cycle) next t =
+    record { rows = length-with_oldest (trapped_by cause cycle) t.rows; fetched = refl }
 step-as_long (step.Interrupt pc cause cycle) next t = record { rows = refl; fetched = refl }
 
 steps-as_long : (steps : List Step) (next : ℕ) (t : Passages) → IsAsLong t (with_steps steps next t)
@@ -66,23 +71,28 @@ module _ {seen : Watched} {cycle : ShownCycle} (next : IsNextCycle seen cycle) (
   pub numbering_kept : from < length seen.moments + 1 → new ≡ old → IsNumbering old (begun seen.moments)
       → IsNumbering new (begun (seen.moments ++ moment ∷ []))
   numbering_kept begins same is =
-      let front : take from (seen.moments ++ moment ∷ []) ≡ take from seen.moments = take-append-le from seen.moments (moment ∷ []) (omega (arith, begins)) in
+      let front : take from (seen.moments ++ moment ∷ []) ≡ take from seen.moments =
+      take-append-le from seen.moments (moment ∷ []) (omega (arith, begins)) in
       subst (λ (n : Numbering). IsNumbering n (begun (seen.moments ++ moment ∷ []))) (sym same)
       (subst (λ (ms : List Moment). IsNumbering old (passages_after still_open seen.first.hardware ms)) (sym front) is)
 
   -- before it it goes on
-  pub numbering_on : length seen.moments + 1 ≤ from → IsOneLater cycle.rows.now old.numbers.items old.fetched new.numbers.items new.fetched
+  pub numbering_on : length seen.moments + 1 ≤ from →
+      IsOneLater cycle.rows.now old.numbers.items old.fetched new.numbers.items new.fetched
       → IsNumbering old (begun seen.moments) → IsNumbering new (begun (seen.moments ++ moment ∷ []))
   numbering_on before later is =
       let after = (cycle_shown seen next.shown).passages in
-      let so_far : begun seen.moments ≡ kept = ap (passages_after still_open seen.first.hardware) (take_all from seen.moments (omega (arith, before))) in
+      let so_far : begun seen.moments ≡ kept =
+      ap (passages_after still_open seen.first.hardware) (take_all from seen.moments (omega (arith, before))) in
       let all : take from (seen.moments ++ moment ∷ []) ≡ seen.moments ++ moment ∷ [] =
       take_all from (seen.moments ++ moment ∷ []) (omega (arith, before, length-append seen.moments (moment ∷ []))) in
       let later_is : begun (seen.moments ++ moment ∷ []) ≡ still_open after =
-      ap (passages_after still_open seen.first.hardware) all ∙ passages_after-push still_open next.shown.passes moment in
+      ap (passages_after still_open seen.first.hardware) all
+      ∙ passages_after-push still_open next.shown.passes moment in
       let stepped = steps-as_long next.shown.report.steps cycle.hardware.now.pc kept in
       let numbers : length old.numbers.items ≡ length kept.rows =
-      ap length is.numbers ∙ length-map (begun seen.moments).rows (λ (p : Passage). p.number) ∙ ap (λ (t : Passages). length t.rows) so_far in
+      ap length is.numbers ∙ length-map (begun seen.moments).rows (λ (p : Passage). p.number)
+      ∙ ap (λ (t : Passages). length t.rows) so_far in
       let fetched : old.fetched ≡ kept.fetched = is.fetched ∙ ap (λ (t : Passages). t.fetched) so_far in
       let rows : length cycle.rows.now ≡ length after.rows = ap length next.rows_are in
       let counted : after.fetched ≡ kept.fetched + (length after.rows - length kept.rows) =

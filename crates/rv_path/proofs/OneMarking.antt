@@ -6,7 +6,8 @@ use Rattle.rv_path.specs.Marking.{IsMarked, marks_of_run}
 use Rattle.rv_path.specs.Run.{HasOneAnswer}
 
 -- of a run of described hardware the path has the marks of one list
-pub one_marking : (arrivals : List Arrival) (from cycles : ℕ) → HasOneAnswer (from + cycles) (IsMarked arrivals from cycles)
+pub one_marking : (arrivals : List Arrival) (from cycles : ℕ) →
+    HasOneAnswer (from + cycles) (IsMarked arrivals from cycles)
 one_marking arrivals from cycles h predictor new new' marks marks' within is is' =
     let same = one_run within is.run is'.run in
     is.marks_are ∙ ap (marks_of_run from h) same.moments_are ∙ sym is'.marks_are

@@ -9,11 +9,13 @@ use Rattle.rv_source.specs.Listing.{Listed}
 use Rattle.rv_view.specs.Run.{HasOneText}
 
 -- of a run of described hardware there is one text of its path
-pub one_path : (arrivals : List Arrival) (limit : ℕ) (listing : Listed) → HasOneText limit (IsPath arrivals limit listing)
+pub one_path : (arrivals : List Arrival) (limit : ℕ) (listing : Listed) →
+    HasOneText limit (IsPath arrivals limit listing)
 one_path arrivals limit listing h predictor new new' stop stop' text text' within is is' =
     let one = is.accounted in
     let other = is'.accounted in
     let same = one_run within one.run other.run in
     let cycles : is.cycles ≡ is'.cycles = one.cycles_are ∙ ap length same.moments_are ∙ sym other.cycles_are in
-    let account : is.account ≡ is'.account = one.account_is ∙ ap (account_of_run h) same.moments_are ∙ sym other.account_is in
+    let account : is.account ≡ is'.account = one.account_is ∙ ap (account_of_run h) same.moments_are
+    ∙ sym other.account_is in
     (same.reasons, is.text_is ∙ (λ i. account_text listing (cycles i) (account i)) ∙ sym is'.text_is)

@@ -33,7 +33,8 @@ use Rattle.rv_path.specs.OnPath.{IsOnPath, read_by}
 use Rattle.rv_path.specs.Run.{IsAccounted}
 
 -- what is known with one more cycle
-pub known-shown : {seen : Watched} {cycle : ShownCycle} (next : IsNextCycle seen cycle) (path : Path) → IsOnPath path seen
+pub known-shown : {seen : Watched} {cycle : ShownCycle} (next : IsNextCycle seen cycle) (path : Path) →
+    IsOnPath path seen
     → known_shown (read_by cycle) (known_of_path path (known_of seen.first.hardware (cycles_seen seen)).events)
     ≡ known_of seen.first.hardware (cycles_seen (with_shown seen next.shown))
 known-shown {seen = seen} {cycle = cycle} next path on =
@@ -42,18 +43,21 @@ known-shown {seen = seen} {cycle = cycle} next path on =
     let after = read_of hardware in
     let first = seen.first.hardware in
     let elapsed = ap (λ (p : Progress). p.cycles - 1) shown.progress_is in
-    (λ i. known_in (setting_in (shown.number i) (elapsed i) (next.rows_are i) hardware (on.known i)) (on.known i).ways (on.known i).events
+    (λ i. known_in (setting_in (shown.number i) (elapsed i) (next.rows_are i) hardware (on.known i))
+    (on.known i).ways (on.known i).events
     (shown.steps_are i) after)
     ∙ sym (fold-append known_after (known_at first) (cycles_seen seen) (cycle_shown seen shown ∷ []))
     ∙ ap (known_of first) (sym (cycles_seen-push seen shown))
 
 -- one more cycle, of which this was read
-pub pathing_on : {seen : Watched} {cycle : ShownCycle} (next : IsNextCycle seen cycle) (read : CycleRead) (path path' : Path) → read ≡ read_by cycle
+pub pathing_on : {seen : Watched} {cycle : ShownCycle} (next : IsNextCycle seen cycle) (read : CycleRead)
+    (path path' : Path) → read ≡ read_by cycle
     → IsOnPath path seen
     → ((events : List Event) →
     known_of_path path' (with_events (made_shown read (known_of_path path events)) events)
     ≡ known_shown read (known_of_path path events))
-    → IsFollowed (made_shown read (known_of_path path [])) path.window path'.window → IsOnPath path' (with_shown seen next.shown)
+    → IsFollowed (made_shown read (known_of_path path [])) path.window path'.window →
+    IsOnPath path' (with_shown seen next.shown)
 pathing_on {seen = seen} {cycle = cycle} next read path path' is on followed made_is =
     let k = known_of seen.first.hardware (cycles_seen seen) in
     let read-is = ap (λ (one : CycleRead). known_shown one (known_of_path path k.events)) is in
@@ -67,7 +71,8 @@ pub accounted_run : {arrivals : List Arrival} {limit : ℕ} {old new : GuidedHar
     → ((all : List Event) → IsWindow path.window all → PassesIn path (last_left path.before.left) →
     account ≡ account_of (end_of progress.cycles path.before ∷ path_to all (Some (last_left path.before.left).at)))
     → IsAccounted arrivals limit old new stop progress.cycles account
-accounted_run {arrivals = arrivals} {old = old} {new = new} {moments = moments} {progress = progress} path account on run counted accounts =
+accounted_run {arrivals = arrivals} {old = old} {new = new} {moments = moments} {progress = progress} path account on
+    run counted accounts =
     let k = known_of old.hardware (cycles_seen (watched arrivals old moments new)) in
     let n = length moments in
     let cycles : progress.cycles ≡ n = ap (λ (p : Progress). p.cycles) counted ∙ length-reports_of moments in
@@ -79,8 +84,10 @@ accounted_run {arrivals = arrivals} {old = old} {new = new} {moments = moments} 
     accounts k.events on.window passes
     ∙ (λ i. account_of (end_of (cycles i) (before i) ∷ path_to k.events (Some (last_left (before i).left).at))) in
     let whole = end_of n k.before ∷ to_end in
-    let in-time = path-in_time n k.events (Some (last_left k.before.left).at) (comes_in_time old.hardware moments).events in
-    let all : (account_of whole).cycles ≡ progress.cycles = cycles-all (end_of n k.before) to_end in-time ∙ sym cycles in
+    let in-time = path-in_time n k.events (Some (last_left k.before.left).at)
+    (comes_in_time old.hardware moments).events in
+    let all : (account_of whole).cycles ≡ progress.cycles =
+    cycles-all (end_of n k.before) to_end in-time ∙ sym cycles in
     let words_are : account.words ≡ (account_of whole).words = ap (λ (a : Accounted). a.words) account_is in
     record {
       moments = moments;
@@ -92,5 +99,6 @@ accounted_run {arrivals = arrivals} {old = old} {new = new} {moments = moments} 
       each_word =
           subst (λ (w : List WordCycles). AreWithin progress.cycles w) (sym words_are)
           (subst (λ (m : ℕ). AreWithin m (account_of whole).words) all (words_add_up whole));
-      all_words = subst (λ (w : List WordCycles). words_cycles w ≤ progress.cycles) (sym words_are) (omega (arith, words-within whole, all));
+      all_words = subst (λ (w : List WordCycles). words_cycles w ≤ progress.cycles) (sym words_are)
+          (omega (arith, words-within whole, all));
     }

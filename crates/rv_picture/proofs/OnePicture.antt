@@ -15,7 +15,9 @@ pub one_picture : (arrivals : List Arrival) (view : View) (marks : Option (List 
     HasOneText (view.from + view.cycles) (IsPicture arrivals view marks listing)
 one_picture arrivals view marks listing h predictor new new' end end' text text' within is is' =
     let same = one_run within is.run is'.run in
-    let over = is.over_is ∙ (λ i. over_of (recorded_after view.from h (same.moments_are i) (same.reasons i)).window) ∙ sym is'.over_is in (
+    let over = is.over_is ∙ (λ i. over_of (recorded_after view.from h (same.moments_are i) (same.reasons i)).window)
+    ∙ sym is'.over_is in (
       λ i. record { stop = same.reasons i; over = over i },
-      is.text_is ∙ (λ i. view_text view marks listing (recorded_after view.from h (same.moments_are i) (same.reasons i))) ∙ sym is'.text_is,
+      is.text_is ∙ (λ i. view_text view marks listing
+          (recorded_after view.from h (same.moments_are i) (same.reasons i))) ∙ sym is'.text_is,
     )

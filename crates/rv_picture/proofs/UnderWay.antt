@@ -40,9 +40,11 @@ is_not_by_limit reason is same = false≢true (sym is ∙ ap is_limit same)
 pub recording_nothing : (arrivals : List Arrival) (h : GuidedHardware) (table : Passages)
     (stalls : List (Option Stall)) → table ≡ table_at h.hardware → length table.rows ≤ 288 → stalls ≡ []
     → IsRecording table stalls (watched arrivals h [] h)
-recording_nothing arrivals h table stalls is few none = record { followed = followed_nothing all_kept h.hardware table is few; stalls_are = none }
+recording_nothing arrivals h table stalls is few none =
+    record { followed = followed_nothing all_kept h.hardware table is few; stalls_are = none }
 
-stalls_in-push : (reports : List Report) (last : Report) → stalls_in (reports ++ last ∷ []) ≡ stalls_in reports ++ last.stall ∷ []
+stalls_in-push : (reports : List Report) (last : Report) → stalls_in (reports ++ last ∷ [])
+    ≡ stalls_in reports ++ last.stall ∷ []
 stalls_in-push [] last = refl
 stalls_in-push (report ∷ reports) last = ap (λ l. report.stall ∷ l) (stalls_in-push reports last)
 
@@ -56,7 +58,8 @@ module _ {seen : Watched} {cycle : ℕ} {steps : List Step} {after : Hardware} {
   -- one more cycle, whose steps the table takes
   pub recording_on : (table' : Passages) → table' ≡ after_cycle cycle steps after table →
       table'.fetched ≤ table.fetched + 288 → table'.retired ≤ table.retired + 8
-      → (stalls' : List (Option Stall)) → stalls' ≡ stalls ++ progress.stall ∷ [] → IsRecording table' stalls' (with_shown seen shown)
+      → (stalls' : List (Option Stall)) → stalls' ≡ stalls ++ progress.stall ∷ [] →
+      IsRecording table' stalls' (with_shown seen shown)
   recording_on table' takes fetched retired stalls' pushed =
       let last : Moment = record { report = shown.report; after = after } in
       let last_stall : progress.stall ≡ shown.report.stall =
@@ -67,7 +70,8 @@ module _ {seen : Watched} {cycle : ℕ} {steps : List Step} {after : Hardware} {
             (cycle_counts shown.cycled) table' refl fetched retired;
         stalls_are =
             pushed ∙ (λ i. so_far.stalls_are i ++ last_stall i ∷ [])
-            ∙ sym (ap stalls_in (reports_of-push seen.moments last) ∙ stalls_in-push (reports_of seen.moments) shown.report);
+            ∙ sym (ap stalls_in (reports_of-push seen.moments last)
+            ∙ stalls_in-push (reports_of seen.moments) shown.report);
       }
 
 module _ {arrivals : List Arrival} {old new : GuidedHardware} {reason : Stop} where
@@ -104,7 +108,8 @@ module _ {arrivals : List Arrival} {old new : GuidedHardware} {reason : Stop} wh
       let first : hardware_after old.hardware (take from (before ++ rest.moments)) ≡ start.hardware =
       ap (λ n. hardware_after old.hardware (take n (before ++ rest.moments))) (sym so_many)
       ∙ ap (hardware_after old.hardware) (take-append_seam before rest.moments) ∙ history_end run.passes in
-      let others : drop from (before ++ rest.moments) ≡ rest.moments = ap (λ n. drop n (before ++ rest.moments)) (sym so_many) ∙ drop-append_seam before rest.moments in
+      let others : drop from (before ++ rest.moments) ≡ rest.moments =
+      ap (λ n. drop n (before ++ rest.moments)) (sym so_many) ∙ drop-append_seam before rest.moments in
       record {
         moments = before ++ rest.moments;
         run = run_on run rest.run;
@@ -116,8 +121,14 @@ module _ {arrivals : List Arrival} {old new : GuidedHardware} {reason : Stop} wh
       IsEndedRun arrivals from old moments new reason → kept ≡ recorded_from new.hardware [] reason
       → IsRecorded arrivals from (from + limit) old new reason kept
   recorded_nothing {from = from} {moments = moments} limit other run is =
-      let few : length moments ≤ from = omega (arith, length-reports_of moments, length-run from (reports_of moments) new.hardware reason run.stops) in
-      let first : hardware_after old.hardware (take from moments) ≡ new.hardware = ap (hardware_after old.hardware) (take_all from moments few) ∙ history_end run.passes in
+      let few : length moments ≤ from =
+      omega (
+        arith,
+        length-reports_of moments,
+        length-run from (reports_of moments) new.hardware reason run.stops,
+      ) in
+      let first : hardware_after old.hardware (take from moments) ≡ new.hardware =
+      ap (hardware_after old.hardware) (take_all from moments few) ∙ history_end run.passes in
       record {
         moments = moments;
         run = run_earlier limit other run;
@@ -128,8 +139,15 @@ later_cycles : {arrivals : List Arrival} {old new : GuidedHardware} {moments : L
     History arrivals old moments new →
     (hardware_after old.hardware (take from moments)).cycle + length (drop from moments) ≡ new.hardware.cycle
 later_cycles {arrivals} {old} {new} {moments} from passes =
-    let (middle, before, later) = History-split (take from moments) (drop from moments) (subst (λ l. History arrivals old l new) (sym (take-append-drop from moments)) passes) in
-    omega (arith, ap (λ (h : Hardware). h.cycle) (history_end before), moments_counted later, length-reports_of (drop from moments))
+    let (middle, before, later) =
+    History-split (take from moments) (drop from moments)
+    (subst (λ l. History arrivals old l new) (sym (take-append-drop from moments)) passes) in
+    omega (
+      arith,
+      ap (λ (h : Hardware). h.cycle) (history_end before),
+      moments_counted later,
+      length-reports_of (drop from moments),
+    )
 
 -- the cycles of a recording end with the run
 pub window_end : {arrivals : List Arrival} {from limit : ℕ} {old

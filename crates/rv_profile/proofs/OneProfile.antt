@@ -19,6 +19,7 @@ pub one_profile : (arrivals : List Arrival) (limit : ℕ) (values : Values) (pat
     HasOneText limit (IsProfile arrivals limit values path listing)
 one_profile arrivals limit values path listing h predictor new new' stop stop' text text' within is is' =
     let same = one_run within is.counts.run is'.counts.run in
-    let counted = subst (λ (moments : List Moment). IsProfileOf (costs_of values) (passages_of_run h moments) (heads_of moments) is.words) same.moments_are is.counts.counted in
+    let counted = subst (λ (moments : List Moment). IsProfileOf (costs_of values) (passages_of_run h moments)
+    (heads_of moments) is.words) same.moments_are is.counts.counted in
     let words : is.words ≡ is'.words = counted_once is.words is'.words counted is'.counts.counted in
     (same.reasons, is.text_is ∙ ap (table_text listing path) words ∙ sym is'.text_is)

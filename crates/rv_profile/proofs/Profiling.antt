@@ -94,7 +94,8 @@ module _ {seen : Watched} {cycle : ShownCycle} (next : IsNextCycle seen cycle) {
             (heads_of (with_shown seen next.shown).moments) ws) (sym words_now)
             (subst (λ l. IsProfileOf costs l (heads_of (with_shown seen next.shown).moments)
             (with_cycle costs rows head_after profile.words)) (sym lefts)
-            (subst (λ heads. IsProfileOf costs (now_left ++ left) heads (with_cycle costs rows head_after profile.words))
+            (subst (λ heads. IsProfileOf costs (now_left ++ left) heads
+            (with_cycle costs rows head_after profile.words))
             (sym (heads_of-push seen.moments moment)) all_now));
         within = subst (λ ws. Each (IsWithin (577 * after.cycle)) ws) (sym words_now)
             (each-by _ (λ w is. within-more _ (577 * after.cycle) w
@@ -130,7 +131,8 @@ module _ {arrivals : List Arrival} {old new : GuidedHardware} {moments : List
         counted =
             subst (λ ws. IsProfileOf (costs_of values) (passages_of_run old.hardware moments) (heads_of moments) ws)
             (sym words_now)
-            (profile-passages (costs_of values) rows_kept (left_after old.hardware moments) (heads_of moments) profile.words
+            (profile-passages (costs_of values) rows_kept (left_after old.hardware moments)
+            (heads_of moments) profile.words
             (subst (λ c. IsProfileOf c (left_after old.hardware moments) (heads_of moments) profile.words) costs_is
             profiling.counted));
       }

@@ -13,7 +13,8 @@ use Rattle.rv_counts.specs.declared.counts.WordCounts.{WordCounts}
 -- the names of the columns
 unfoldable pub columns : List ℕ
 columns =
-    codes "address\tline\tstatement\tfetched\tretired\tsquashed\tdispatch_mean\tdispatch_most\tissue_mean\tissue_most\t" ++
+    codes "address\tline\tstatement\tfetched\tretired\tsquashed\tdispatch_mean\tdispatch_most\tissue_mean\tissue_most\t"
+    ++
     codes "broadcast_mean\tbroadcast_most\tretire_mean\tretire_most\thits\tmisses\tmispredicted\thead"
 
 -- that of the cycles on a path, where one is shown

@@ -11,12 +11,15 @@ use Rattle.rv_program.specs.Answer.{IsAnswer, answered}
 
 -- what is written of a run is answered of its job, by the program's errors
 of_job : {T : Type 0} (Is IsOfJob : T → List ℕ → Type 0) (written : Result T TextError) (old new : Option (List ℕ))
-    → ((answer : T) (text : List ℕ) → Is answer text → IsOfJob answer text) → IsText Is written old new → IsAnswer IsOfJob (answered written) old new
+    → ((answer : T) (text : List ℕ) → Is answer text → IsOfJob answer text) → IsText Is written old new →
+    IsAnswer IsOfJob (answered written) old new
 of_job Is IsOfJob (Ok answer) old new means (text, is, appended) = (text, means answer text is, appended)
-of_job Is IsOfJob (Err WriteFailed) old new means (answer, text, is, beginning) = (answer, text, means answer text is, beginning)
+of_job Is IsOfJob (Err WriteFailed) old new means (answer, text, is, beginning) =
+    (answer, text, means answer text is, beginning)
 of_job Is IsOfJob (Err Memory) old new means nothing = nothing
 
-answered_by : {T : Type 0} (Is IsOfJob : T → List ℕ → Type 0) (written : Result T TextError) (result : Result T SimError) (old new : Option (List ℕ))
+answered_by : {T : Type 0} (Is IsOfJob : T → List ℕ → Type 0) (written : Result T TextError)
+    (result : Result T SimError) (old new : Option (List ℕ))
     → result ≡ answered written → ((answer : T) (text : List ℕ) → Is answer text → IsOfJob answer text) →
     IsText Is written old new → IsAnswer IsOfJob result old new
 answered_by Is IsOfJob written result old new is means writes =
@@ -27,12 +30,15 @@ pub answered_from : {T : Type 0} {Is : T → List ℕ → Type 0} (IsOfJob : T �
     (written : Result T TextError) {result : Result T SimError} (old new : Option (List ℕ))
     → IsText Is written old new → result ≡ answered written →
     ((answer : T) (text : List ℕ) → Is answer text → IsOfJob answer text) → IsAnswer IsOfJob result old new
-answered_from {Is = Is} IsOfJob written {result} old new writes is means = answered_by Is IsOfJob written result old new is means writes
+answered_from {Is = Is} IsOfJob written {result} old new writes is means =
+    answered_by Is IsOfJob written result old new is means writes
 
 -- an error that `?` hands on
-pub answered_on : {T : Type 0} (Is : T → List ℕ → Type 0) (result : Result T SimError) (error : SimError) (old new : Option (List ℕ))
+pub answered_on : {T : Type 0} (Is : T → List ℕ → Type 0) (result : Result T SimError) (error : SimError)
+    (old new : Option (List ℕ))
     → IsErrAnd result (λ e. e ≡ error) → IsAnswer Is (Err error) old new → IsAnswer Is result old new
-answered_on Is result error old new same holds = subst (λ r. IsAnswer Is r old new) (sym (handed_on result error same)) holds
+answered_on Is result error old new same holds =
+    subst (λ r. IsAnswer Is r old new) (sym (handed_on result error same)) holds
 
 Keeps-itself : (known : Option (List ℕ)) → Keeps known known
 Keeps-itself None = tt

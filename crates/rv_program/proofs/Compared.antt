@@ -18,7 +18,8 @@ pub runs_from : {arrivals : List Arrival} {options : TableOptions} {run : Compar
     predictor' : Guide} → h ≡ h' → predictor ≡ predictor'
     → RunsTo arrivals options (guided h predictor) run → RunsTo arrivals options (guided h' predictor') run
 runs_from {arrivals} {options} {run} {h' = h'} {predictor = predictor} same known runs =
-    subst (λ p. RunsTo arrivals options (guided h' p) run) known (subst (λ h. RunsTo arrivals options (guided h predictor) run) same runs)
+    subst (λ p. RunsTo arrivals options (guided h' p) run) known
+    (subst (λ h. RunsTo arrivals options (guided h predictor) run) same runs)
 
 -- one more run
 pub run_more : (options : TableOptions) (jobs : List Job) (place : ℕ) → place < length jobs →
@@ -33,7 +34,8 @@ run_more options jobs place below runs done job is run here =
 -- all are run
 pub all_run : (options : TableOptions) (jobs : List Job) (place : ℕ) (runs : List ComparedRun) → place ≡ length jobs →
     AreRuns options (take place jobs) runs → AreRuns options jobs runs
-all_run options jobs place runs is done = subst (λ l. AreRuns options l runs) (take_all place jobs (omega (arith, is))) done
+all_run options jobs place runs is done =
+    subst (λ l. AreRuns options l runs) (take_all place jobs (omega (arith, is))) done
 
 -- the table of all
 pub table_made : (comparison : Comparison) (options : TableOptions) (jobs : List Job) (runs rows : List ComparedRun)

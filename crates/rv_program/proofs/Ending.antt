@@ -36,7 +36,8 @@ pub Ends-after : {T : Type 0} (task : Task) (predictor : Guide) (Is : T → List
 Ends-after task predictor Is ended (Ok a) old new asks shows (text, is, appended) same =
     subst (Ends task predictor old new) (sym same) (text, shows a text is, appended)
 Ends-after task predictor Is ended (Err error) old new asks shows holds same =
-    subst (Ends task predictor old new) (sym same) (Ends-by_error task predictor Is ended error old new asks shows holds)
+    subst (Ends task predictor old new) (sym same)
+    (Ends-by_error task predictor Is ended error old new asks shows holds)
 
 -- by a write that failed, of the text that the task has
 pub Ends-by_write : (task : Task) (predictor : Guide) (ended : Ended) (text : List ℕ) (old new : Option (List ℕ))
@@ -44,10 +45,21 @@ pub Ends-by_write : (task : Task) (predictor : Guide) (ended : Ended) (text : Li
 Ends-by_write task predictor ended text old new shows beginning = (text, ended, shows, beginning)
 
 -- a task that was done with the predictor of its machine, and whose output the buffer handed back
-pub ended_with : {W : Type 0} (contents : W → Option (List ℕ)) (task : Task) {predictor : Guide} (given output : W) (held : Option (List ℕ))
+pub ended_with : {W : Type 0} (contents : W → Option (List ℕ)) (task : Task) {predictor : Guide} (given output : W)
+    (held : Option (List ℕ))
     (ended outcome : Result Ended SimError) {old new : FaultStream} {status : ℕ}
-    → Ends task predictor (contents given) held ended → predictor ≡ untaught_of (predictor_of task) → PassesOn ended outcome held (contents output)
-    → ReportsEnding old new outcome → status ≡ exit_status outcome → EndsWithin contents task given (Some output) old new status
+    → Ends task predictor (contents given) held ended → predictor ≡ untaught_of (predictor_of task) →
+    PassesOn ended outcome held (contents output)
+    → ReportsEnding old new outcome → status ≡ exit_status outcome →
+    EndsWithin contents task given (Some output) old new status
 ended_with contents task given output held ended outcome ends described passed reports is =
     let own = subst (λ p. Ends task p (contents given) held ended) described ends in
-    inr (output, refl, outcome, ended_passed_on task _ (contents given) held (contents output) ended outcome own passed, reports, is)
+    inr (
+      output,
+      refl,
+      outcome,
+      ended_passed_on task _ (contents given) held (contents output) ended outcome
+          own passed,
+      reports,
+      is,
+    )

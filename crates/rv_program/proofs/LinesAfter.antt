@@ -27,7 +27,9 @@ Has lines h = h.lines ≡ lines
 -- no phase from commit on changes the lines
 executed_lines : (lines : Lines) (h : Hardware) → Has lines h → Has lines (execute h).hardware
 executed_lines lines h has =
-    let drained : Has lines (drain h) = drain-keeps {P = Has lines} (record { leaves = λ g same idle. same; drains = λ g access same idle is. same }) h has in
+    let drained : Has lines (drain h) =
+    drain-keeps {P = Has lines}
+    (record { leaves = λ g same idle. same; drains = λ g access same idle is. same }) h has in
     let issued : Has lines (issue (drain h)) =
     issue-keeps (Has lines) (λ k. record {
       accesses = λ g older younger e address same split ready by. same;
@@ -39,9 +41,11 @@ executed_lines lines h has =
       broadcasts = λ g older younger e message same split gives. same;
       mends = λ g older younger e next same split. same;
     }) (issue (drain h)) issued in
-    dispatch-keeps {P = Has lines} (record { dispatches = λ g fetched rest same first none. same }) (broadcast (issue (drain h))) broadcasts
+    dispatch-keeps {P = Has lines} (record { dispatches = λ g fetched rest same first none. same })
+    (broadcast (issue (drain h))) broadcasts
 
-cycle_lines : {lines : Lines} {old new : Hardware} {report : Report} → IsCycle any_prediction lines old report new → new.lines ≡ lines
+cycle_lines : {lines : Lines} {old new : Hardware} {report : Report} → IsCycle any_prediction lines old report new →
+    new.lines ≡ lines
 cycle_lines {lines} {old} {new} cycle =
     let committed : Has lines cycle.committing.hardware =
     subst (λ (c : Committing). Has lines c.hardware) (sym cycle.commits)
@@ -51,7 +55,8 @@ cycle_lines {lines} {old} {new} cycle =
       writes_back = λ h same drained. same;
     }) set.contains (with_lines lines old) refl) in
     let executed : Has lines cycle.dispatching.hardware =
-    subst (λ (d : Dispatching). Has lines d.hardware) (sym cycle.executes) (executed_lines lines cycle.committing.hardware committed) in
+    subst (λ (d : Dispatching). Has lines d.hardware) (sym cycle.executes)
+    (executed_lines lines cycle.committing.hardware committed) in
     ap (λ (h : Hardware). h.lines) cycle.others_stay ∙ executed
 
 one_more : (arrivals : List Arrival) (n : ℕ) → lines_after arrivals (n + 1) ≡ lines_at arrivals n

@@ -13,6 +13,10 @@ pub one_report_of : (job : Job) (predictor : DescribedPredictor) (options : Opti
 one_report_of job predictor options within stop stop' text text' is is' =
     let timing = is.timing in
     let timing' = is'.timing in
-    let same = run_once job.arrivals options.limit (hardware_of job) predictor timing.reports timing'.reports timing.end timing'.end
-    stop stop' (omega (arith, within)) timing.cycles timing.stops timing'.cycles timing'.stops in
-    (same.reasons, timing.text_is ∙ (λ i. text_of job options (same.reasons i) (same.reports_are i) (same.ends i).hardware) ∙ sym timing'.text_is)
+    let same = run_once job.arrivals options.limit (hardware_of job) predictor timing.reports timing'.reports
+    timing.end timing'.end
+    stop stop' (omega (arith, within)) timing.cycles timing.stops timing'.cycles timing'.stops in (
+      same.reasons,
+      timing.text_is
+          ∙ (λ i. text_of job options (same.reasons i) (same.reports_are i) (same.ends i).hardware) ∙ sym timing'.text_is,
+    )

@@ -14,7 +14,8 @@ use Rattle.rv_program.specs.Sensitivity.{AreRows, IsSensitivityTable, IsTried}
 use Rattle.rv_program.proofs.OneTable.{came_to_once}
 
 module _ (job : Job) (options : TableOptions) (within : options.limit ≤ 2 ^ 40) where
-  run_once : (machine : Values) (run run' : ComparedRun) → IsRunOn options job machine run → IsRunOn options job machine run' → run ≡ run'
+  run_once : (machine : Values) (run run' : ComparedRun) → IsRunOn options job machine run →
+      IsRunOn options job machine run' → run ≡ run'
   run_once machine run run' is is' = came_to_once {h = hardware_on machine job} run run' (omega (arith, within)) is is'
 
   tried_once : (neighbour : Neighbour) (tried tried' : TriedRun) → IsTried options job neighbour tried →
@@ -34,9 +35,11 @@ module _ (job : Job) (options : TableOptions) (within : options.limit ≤ 2 ^ 40
       let rest = each_once neighbours tried tried' each.1 each'.1 in
       λ i. one i ∷ rest i
 
-  rows_once : (own : List Change) (rows rows' : List TriedRun) → AreRows options job own rows → AreRows options job own rows' → rows ≡ rows'
+  rows_once : (own : List Change) (rows rows' : List TriedRun) → AreRows options job own rows →
+      AreRows options job own rows' → rows ≡ rows'
   rows_once own rows rows' are are' =
-      are.rows_are ∙ ap in_order (each_once (neighbours_of job.description own) are.tried are'.tried are.each are'.each) ∙ sym are'.rows_are
+      are.rows_are ∙ ap in_order (each_once (neighbours_of job.description own) are.tried are'.tried are.each are'.each)
+      ∙ sym are'.rows_are
 
 -- a job has one table of its neighbours
 pub one_sensitivity_of : (job : Job) (own : List Change) (options : TableOptions) → options.limit ≤ 2 ^ 40 →

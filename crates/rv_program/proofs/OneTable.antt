@@ -19,23 +19,29 @@ use Rattle.rv_report.specs.declared.{losses.ComparedRun.ComparedRun}
 use Rattle.rv_program.specs.Comparison.{AreRuns, IsAtMostOneText, IsComparisonTable, IsRun, another, nothing}
 use Rattle.rv_program.specs.CoreReport.{hardware_of}
 
-ended_run : {arrivals : List Arrival} {options : TableOptions} {old : GuidedHardware} {run : ComparedRun} (is : RunsTo arrivals options old run)
+ended_run : {arrivals : List Arrival} {options : TableOptions} {old : GuidedHardware} {run : ComparedRun}
+    (is : RunsTo arrivals options old run)
     → IsEndedRun arrivals options.limit old is.moments is.new run.totals.stop
 ended_run is = record { passes = is.cycles; stops = is.stops }
 
 -- a run of hardware with a described predictor comes to one thing
 pub came_to_once : {arrivals : List Arrival} {options : TableOptions} {h : Hardware} {predictor : DescribedPredictor}
     (run run' : ComparedRun) → h.cycle + options.limit ≤ 2 ^ 40
-    → RunsTo arrivals options (guided h (guide_of predictor)) run → RunsTo arrivals options (guided h (guide_of predictor)) run' → run ≡ run'
+    → RunsTo arrivals options (guided h (guide_of predictor)) run →
+    RunsTo arrivals options (guided h (guide_of predictor)) run' → run ≡ run'
 came_to_once {arrivals} {options} {h} {predictor} run run' within is is' =
     let same = one_run within (ended_run is) (ended_run is') in
     let totals : run.totals ≡ run'.totals =
     is.totals_are ∙ (λ i. totals_at (reports_of (same.moments_are i)) (same.reasons i)) ∙ sym is'.totals_are in
-    let losses : run.losses ≡ run'.losses = is.losses_are ∙ (λ i. losses_of h (same.moments_are i)) ∙ sym is'.losses_are in
-    let events : run.events ≡ run'.events = is.events_are ∙ (λ i. events_in h.values h (same.moments_are i)) ∙ sym is'.events_are in
-    let words : run.words ≡ run'.words = is.words_are ∙ (λ i. words_of options.shown (same.ends i).hardware) ∙ sym is'.words_are in
+    let losses : run.losses ≡ run'.losses = is.losses_are ∙ (λ i. losses_of h (same.moments_are i))
+    ∙ sym is'.losses_are in
+    let events : run.events ≡ run'.events = is.events_are ∙ (λ i. events_in h.values h (same.moments_are i))
+    ∙ sym is'.events_are in
+    let words : run.words ≡ run'.words = is.words_are ∙ (λ i. words_of options.shown (same.ends i).hardware)
+    ∙ sym is'.words_are in
     let places : run.places ≡ run'.places =
-    is.places_are ∙ (λ i. places_shown options.shown h (same.moments_are i) (same.ends i).hardware) ∙ sym is'.places_are in
+    is.places_are ∙ (λ i. places_shown options.shown h (same.moments_are i) (same.ends i).hardware)
+    ∙ sym is'.places_are in
     λ i. record { totals = totals i; losses = losses i; events = events i; words = words i; places = places i }
 
 module _ (options : TableOptions) where
@@ -55,9 +61,11 @@ module _ (options : TableOptions) where
 
   each_run : {jobs : List Job} {runs : List ComparedRun} → AreRuns options jobs runs → EachRun jobs runs
   each_run nothing = tt
-  each_run (another {jobs = jobs} {runs = runs} {run = run} job before last) = EachRun-push jobs runs job run (each_run before) last
+  each_run (another {jobs = jobs} {runs = runs} {run = run} job before last) =
+      EachRun-push jobs runs job run (each_run before) last
 
-  runs_once : options.limit ≤ 2 ^ 40 → (jobs : List Job) (runs runs' : List ComparedRun) → EachRun jobs runs → EachRun jobs runs' → runs ≡ runs'
+  runs_once : options.limit ≤ 2 ^ 40 → (jobs : List Job) (runs runs' : List ComparedRun) → EachRun jobs runs →
+      EachRun jobs runs' → runs ≡ runs'
   runs_once within [] [] [] each each' = refl
   runs_once within [] (run ∷ runs) runs' each each' = absurd each
   runs_once within [] [] (run' ∷ runs') each each' = absurd each'
@@ -72,5 +80,6 @@ module _ (options : TableOptions) where
 pub one_table_of : (comparison : Comparison) (options : TableOptions) → options.limit ≤ 2 ^ 40 →
     IsAtMostOneText (IsComparisonTable comparison options)
 one_table_of comparison options within text text' is is' =
-    let runs = runs_once options within comparison.jobs.items is.runs is'.runs (each_run options is.done) (each_run options is'.done) in
+    let runs = runs_once options within comparison.jobs.items is.runs is'.runs (each_run options is.done)
+    (each_run options is'.done) in
     is.text_is ∙ ap (table_of options.shown (map (λ name. name.items) comparison.names.items)) runs ∙ sym is'.text_is

@@ -46,19 +46,24 @@ asked_once true Is (Some a) None once is never = absurd never
 abbrev own : Job → DescribedPredictor
 own job = described job.description.predictor.kind job.description.predictor.entries
 
-marks_once : (job : Job) (view : View) (path : Bool) (marks marks' : Option (List Mark)) → view.from + view.cycles ≤ 2 ^ 40
+marks_once : (job : Job) (view : View) (path : Bool) (marks marks' : Option (List Mark)) →
+    view.from + view.cycles ≤ 2 ^ 40
     → IsAskedFor path (AreMarksOf job view) marks → IsAskedFor path (AreMarksOf job view) marks' → marks ≡ marks'
 marks_once job view path marks marks' within = asked_once path (AreMarksOf job view) marks marks' (λ a b is is'.
-    one_marking job.arrivals view.from view.cycles (hardware_of job) (own job) is.0 is'.0 a b (omega (arith, within)) is.1 is'.1)
+    one_marking job.arrivals view.from view.cycles (hardware_of job) (own job) is.0 is'.0 a b
+    (omega (arith, within)) is.1 is'.1)
 
 account_once : (job : Job) (limit : ℕ) (path : Bool) (account account' : Option Accounted) → limit ≤ 2 ^ 40
-    → IsAskedFor path (IsAccountOf job limit) account → IsAskedFor path (IsAccountOf job limit) account' → account ≡ account'
-account_once job limit path account account' within = asked_once path (IsAccountOf job limit) account account' (λ a b is is'.
+    → IsAskedFor path (IsAccountOf job limit) account → IsAskedFor path (IsAccountOf job limit) account' →
+    account ≡ account'
+account_once job limit path account account' within =
+    asked_once path (IsAccountOf job limit) account account' (λ a b is is'.
     one_account job.arrivals limit (hardware_of job) (own job) is.0 is'.0 a b (omega (arith, within)) is.1 is'.1)
 
 module _ (listed : ListedJob) (predictor : DescribedPredictor) where
   -- where a run has one text of a kind, this job's has
-  once : {T : Type 0} (limit : ℕ) (Is : GuidedHardware → GuidedHardware → T → List ℕ → Type 0) → HasOneText limit Is → limit ≤ 2 ^ 40 →
+  once : {T : Type 0} (limit : ℕ) (Is : GuidedHardware → GuidedHardware → T → List ℕ → Type 0) → HasOneText limit Is →
+      limit ≤ 2 ^ 40 →
       (new new' : GuidedHardware) (end end' : T) (text text' : List ℕ) →
       Is (guided (hardware_of listed.job) (guide_of predictor)) new end text →
       Is (guided (hardware_of listed.job) (guide_of predictor)) new' end' text' → (end ≡ end') × (text ≡ text')
@@ -82,10 +87,12 @@ module _ (listed : ListedJob) (predictor : DescribedPredictor) where
       let same = one is.end is'.end ended.stop ended'.stop text text' is.shows.0 is'.shows.0 in
       (whole same.0 is.shows.1 is'.shows.1, same.1)
 
-  states_once : (stretch : Stretch) → stretch.limit ≤ 2 ^ 40 → IsAtMostOne (IsViewOf listed (guide_of predictor) (States stretch))
+  states_once : (stretch : Stretch) → stretch.limit ≤ 2 ^ 40 →
+      IsAtMostOne (IsViewOf listed (guide_of predictor) (States stretch))
   states_once stretch within ended ended' text text' is is' =
       let Is = IsStates listed.job.arrivals stretch.from stretch.limit stretch.form listed.listing in
-      let one = once stretch.limit Is (one_text listed.job.arrivals stretch.from stretch.limit stretch.form listed.listing) within in
+      let one = once stretch.limit Is (one_text listed.job.arrivals stretch.from stretch.limit stretch.form
+      listed.listing) within in
       let same = one is.end is'.end ended.stop ended'.stop text text' is.shows.0 is'.shows.0 in
       (whole same.0 is.shows.1 is'.shows.1, same.1)
 
@@ -95,13 +102,15 @@ module _ (listed : ListedJob) (predictor : DescribedPredictor) where
       let (account, asked, shows, none) = is.shows in
       let (account', asked', shows', none') = is'.shows in
       let found = account_once listed.job limit path account' account within asked' asked in
-      let Is = λ (a : Option Accounted). IsExplanation listed.job.arrivals limit figures listed.job.description a listed.listing in
+      let Is = λ (a : Option Accounted). IsExplanation listed.job.arrivals limit figures
+      listed.job.description a listed.listing in
       let one = one_explanation listed.job.arrivals limit figures listed.job.description account listed.listing in
       let same = once limit (Is account) one within is.end is'.end ended.stop ended'.stop text text' shows
       (subst (λ a. Is a _ is'.end ended'.stop text') found shows') in
       (whole same.0 none none', same.1)
 
-  profile_once : (path : Bool) (limit : ℕ) → limit ≤ 2 ^ 40 → IsAtMostOne (IsViewOf listed (guide_of predictor) (Profile path limit))
+  profile_once : (path : Bool) (limit : ℕ) → limit ≤ 2 ^ 40 →
+      IsAtMostOne (IsViewOf listed (guide_of predictor) (Profile path limit))
   profile_once path limit within ended ended' text text' is is' =
       let (account, asked, shows, none) = is.shows in
       let (account', asked', shows', none') = is'.shows in
@@ -125,6 +134,7 @@ pub one_view_of : (listed : ListedJob) (predictor : DescribedPredictor) (view : 
 one_view_of listed predictor (Picture view path) within = picture_once listed predictor view path within
 one_view_of listed predictor (Log limit) within = log_once listed predictor limit within
 one_view_of listed predictor (States stretch) within = states_once listed predictor stretch within
-one_view_of listed predictor (Explanation figures path limit) within = explanation_once listed predictor figures path limit within
+one_view_of listed predictor (Explanation figures path limit) within =
+    explanation_once listed predictor figures path limit within
 one_view_of listed predictor (Profile path limit) within = profile_once listed predictor path limit within
 one_view_of listed predictor (Path limit) within = path_once listed predictor limit within

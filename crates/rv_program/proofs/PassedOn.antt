@@ -20,7 +20,8 @@ use Rattle.rv_program.specs.declared.{ended.Ended.Ended, task.Task.Task}
 pub begun : {W A : Type 0} (contents : W → Option (List ℕ)) (buffer : BufWriter W A) (output : W)
     → writer_inner buffer ≡ output → writer_buffer buffer ≡ [] → writer_contents contents buffer ≡ contents output
 begun contents buffer output is empty =
-    ap (λ held. append_known (contents (writer_inner buffer)) held) empty ∙ unbuffered (contents (writer_inner buffer)) ∙ ap contents is
+    ap (λ held. append_known (contents (writer_inner buffer)) held) empty
+    ∙ unbuffered (contents (writer_inner buffer)) ∙ ap contents is
   where
     unbuffered : (known : Option (List ℕ)) → append_known known [] ≡ known
     unbuffered None = refl
@@ -30,7 +31,8 @@ begun contents buffer output is empty =
 pub before_buffer : {W A : Type 0} (contents : W → Option (List ℕ)) (buffer : BufWriter W A) (output : W)
     → output ≡ writer_inner buffer → HoldsBeginning (writer_contents contents buffer) (contents output) []
 before_buffer contents buffer output is =
-    subst (λ o. HoldsBeginning (writer_contents contents buffer) (contents o) []) (sym is) (beginning (contents (writer_inner buffer)))
+    subst (λ o. HoldsBeginning (writer_contents contents buffer) (contents o) []) (sym is)
+    (beginning (contents (writer_inner buffer)))
   where
     beginning : (known : Option (List ℕ)) → HoldsBeginning (append_known known (writer_buffer buffer)) known []
     beginning None = tt
@@ -43,7 +45,8 @@ whole_left (Some held) None kept = absurd kept
 whole_left (Some held) (Some new) kept = ([], ap (λ l. l ++ []) kept)
 
 -- a beginning of what was kept
-pub kept_left : (old held new : Option (List ℕ)) → Keeps old held → HoldsBeginning held new [] → HoldsBeginning old new []
+pub kept_left : (old held new : Option (List ℕ)) → Keeps old held → HoldsBeginning held new [] →
+    HoldsBeginning old new []
 kept_left None held new kept left = tt
 kept_left (Some old) None new kept left = absurd kept
 kept_left (Some old) (Some held) None kept left = absurd left
@@ -77,16 +80,33 @@ kept_on ended (Err WriteFailed) held between new kept left = kept_left held betw
 kept_on ended (Err _) held between new kept never = absurd never
 
 -- a task that ended into a buffer, which was passed on
-pub ended_passed_on : (task : Task) (predictor : Guide) (old held new : Option (List ℕ)) (ended outcome : Result Ended SimError)
+pub ended_passed_on : (task : Task) (predictor : Guide) (old held new : Option (List ℕ))
+    (ended outcome : Result Ended SimError)
     → Ends task predictor old held ended → PassesOn ended outcome held new → EndsPassedOn task predictor old new outcome
 ended_passed_on task predictor old held new (Ok ended) (Ok _) (text, shows, appended) (same, kept) =
-    subst (λ s. EndsPassedOn task predictor old new (Ok s)) (sym same) (text, shows, Appends-kept old held new text appended kept)
-ended_passed_on task predictor old held new (Ok ended) (Err WriteFailed) (text, shows, appended) left =
-    (text, ended, shows, grown_left old held new (length text) text (Appends-same old held _ _ (sym (take-length text)) appended) left)
+    subst (λ s. EndsPassedOn task predictor old new (Ok s)) (sym same)
+    (text, shows, Appends-kept old held new text appended kept)
+ended_passed_on task predictor old held new (Ok ended) (Err WriteFailed) (text, shows, appended) left = (
+  text,
+  ended,
+  shows,
+  grown_left old held new (length text) text
+      (Appends-same old held _ _ (sym (take-length text)) appended) left,
+)
 ended_passed_on task predictor old held new (Ok ended) (Err _) ends never = absurd never
 ended_passed_on task predictor old held new (Err error) (Ok _) ends never = absurd never
-ended_passed_on task predictor old held new (Err WriteFailed) (Err outcome) (text, ended, shows, (n, within, grown)) (same, left) =
-    subst (λ e. EndsPassedOn task predictor old new (Err e)) (sym same) (text, ended, shows, grown_left old held new n text grown left)
+ended_passed_on task predictor old held new (Err WriteFailed) (Err outcome) (
+  text,
+  ended,
+  shows,
+  (n, within, grown),
+) (same, left) =
+    subst (λ e. EndsPassedOn task predictor old new (Err e)) (sym same) (
+      text,
+      ended,
+      shows,
+      grown_left old held new n text grown left,
+    )
 ended_passed_on task predictor old held new (Err Memory) (Err outcome) (asks, kept) (same, left) =
     subst (λ e. EndsPassedOn task predictor old new (Err e)) (sym same) (asks, kept_left old held new kept left)
 ended_passed_on task predictor old held new (Err _) (Err outcome) never passes = absurd never

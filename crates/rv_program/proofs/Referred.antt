@@ -10,11 +10,15 @@ use Rattle.rv_report.specs.declared.options.Options.{Options}
 use Rattle.rv_program.specs.ReferenceReport.{IsReferenceReport, at_reset, shown}
 
 -- a run of the one-at-a-time machine from reset is what its report says
-pub run_referred : {asked : Options} {values : Values} {image : List ℕ} {old new : Machine} {outcome : RefOutcome} (job : Job) (options : Options)
-    → values ≡ job.description → image ≡ job.image.bytes → asked ≡ shown values.report options → old ≡ at_reset values image job.image.start
-    → IsRunTo job.arrivals asked.limit old new outcome → IsReferenceReport job options outcome.stop (reference_report outcome new asked)
+pub run_referred : {asked : Options} {values : Values} {image : List ℕ} {old new : Machine} {outcome : RefOutcome}
+    (job : Job) (options : Options)
+    → values ≡ job.description → image ≡ job.image.bytes → asked ≡ shown values.report options →
+    old ≡ at_reset values image job.image.start
+    → IsRunTo job.arrivals asked.limit old new outcome →
+    IsReferenceReport job options outcome.stop (reference_report outcome new asked)
 run_referred {asked} {values} {image} {old} {new} {outcome} job options values_are image_is asked_is old_is run =
-    let options_are : asked ≡ shown job.description.report options = asked_is ∙ ap (λ (v : Values). shown v.report options) values_are in
+    let options_are : asked ≡ shown job.description.report options = asked_is
+    ∙ ap (λ (v : Values). shown v.report options) values_are in
     let start_is : old ≡ at_reset job.description job.image.bytes job.image.start =
     old_is ∙ (λ i. at_reset (values_are i) (image_is i) job.image.start) in
     let limited = subst (λ (o : Options). IsRunTo job.arrivals o.limit old new outcome) options_are run in

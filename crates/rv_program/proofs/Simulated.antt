@@ -30,9 +30,12 @@ use Rattle.rv_program.specs.SimulationReport.{IsSimulationReport, lines_after, s
 use Rattle.rv_job.specs.declared.job.Job.{Job}
 use Rattle.rv_program.proofs.LinesAfter.{lines_are}
 
-module _ (job : Job) (predictor : Guide) (options : Options) (stop : Stop) (reports : List Report) (end : GuidedHardware)
-    (legal : IsLegal job.description) (loadable : IsLoadable job.description job.image.base job.image.bytes job.image.start)
-    (guided_cycles : GuidedCycles job.arrivals (core_of job predictor) reports end) (stopped : IsStop options.limit reports end.hardware stop) where
+module _ (job : Job) (predictor : Guide) (options : Options) (stop : Stop) (reports : List Report)
+    (end : GuidedHardware)
+    (legal : IsLegal job.description)
+    (loadable : IsLoadable job.description job.image.base job.image.bytes job.image.start)
+    (guided_cycles : GuidedCycles job.arrivals (core_of job predictor) reports end)
+    (stopped : IsStop options.limit reports end.hardware stop) where
   abbrev new : Hardware
   new = end.hardware
 
@@ -47,7 +50,8 @@ module _ (job : Job) (predictor : Guide) (options : Options) (stop : Stop) (repo
       let start = state_at_reset job in
       let totals = totals_at reports stop in
       let steps = steps_of reports in
-      let lines : new.lines ≡ lines_after job.arrivals (length reports) = lines_are cycles refl refl ∙ ap (lines_after job.arrivals) number in
+      let lines : new.lines ≡ lines_after job.arrivals (length reports) = lines_are cycles refl refl
+      ∙ ap (lines_after job.arrivals) number in
       record {
         steps = steps;
         totals = totals;
@@ -60,7 +64,8 @@ module _ (job : Job) (predictor : Guide) (options : Options) (stop : Stop) (repo
             subst (λ n. IsTrueStop layout job.arrivals options.limit 0 n steps (seen new) stop) number
             (headline_of_stop job.arrivals options.limit (hardware_of job) new reports stop reached cycles stopped);
         counts = refl;
-        text_is = ap (λ (levels : Lines). run_report steps totals layout (seen new) levels (shown job.description.report options)) lines;
+        text_is = ap (λ (levels : Lines). run_report steps totals layout (seen new) levels
+            (shown job.description.report options)) lines;
       }
 
   pub simulated : IsSimulation job predictor options stop (text_of job options stop reports new)
@@ -79,18 +84,24 @@ values_kept {arrivals} sound (cycled {old = old} {middle = middle} {report = rep
     values_kept goes.sound rest ∙ goes.values_are
 
 -- the report of a run of the core
-pub run_simulated : {asked : Options} {values : Values} {old : Hardware} {stop : Stop} {text : List ℕ} (job : Job) (predictor : Guide) (options : Options)
-    → values ≡ job.description → IsLegal values → IsLoadable job.description job.image.base job.image.bytes job.image.start → old ≡ hardware_of job
+pub run_simulated : {asked : Options} {values : Values} {old : Hardware} {stop : Stop} {text : List ℕ} (job : Job)
+    (predictor : Guide) (options : Options)
+    → values ≡ job.description → IsLegal values →
+    IsLoadable job.description job.image.base job.image.bytes job.image.start → old ≡ hardware_of job
     → asked ≡ shown values.report options → IsRunReport job.arrivals asked (guided old predictor) stop text →
     IsSimulation job predictor options stop text
-run_simulated {asked} {values} {old} {stop} {text} job predictor options values_are values_legal loadable old_is asked_is run =
+run_simulated {asked} {values} {old} {stop} {text} job predictor options values_are values_legal
+    loadable old_is asked_is run =
     let legal = subst IsLegal values_are values_legal in
-    let options_are : asked ≡ shown job.description.report options = asked_is ∙ ap (λ (v : Values). shown v.report options) values_are in
-    let cycles = subst (λ (h : Hardware). GuidedCycles job.arrivals (guided h predictor) run.reports run.new) old_is run.cycles in
+    let options_are : asked ≡ shown job.description.report options = asked_is
+    ∙ ap (λ (v : Values). shown v.report options) values_are in
+    let cycles = subst (λ (h : Hardware). GuidedCycles job.arrivals (guided h predictor) run.reports
+    run.new) old_is run.cycles in
     let stops = subst (λ (o : Options). IsStop o.limit run.reports run.new.hardware stop) options_are run.stops in
     let kept = values_kept (always_sound (at_reset legal loadable)) (cycles_of cycles) in
     let text_is : text_of job options stop run.reports run.new.hardware ≡ text =
     (λ i. run_report (steps_of run.reports) (totals_at run.reports stop) (layout_of (sym kept i))
     (seen run.new.hardware) run.new.hardware.lines (sym options_are i)) ∙ sym run.text_is
     in
-    subst (IsSimulation job predictor options stop) text_is (simulated job predictor options stop run.reports run.new legal loadable cycles stops)
+    subst (IsSimulation job predictor options stop) text_is
+    (simulated job predictor options stop run.reports run.new legal loadable cycles stops)

@@ -37,7 +37,8 @@ all_tried options job neighbours place runs is done =
     subst (λ l. AllZip (IsTried options job) l runs) (take_all place neighbours (omega (arith, is))) done
 
 -- the rows of all
-pub rows_made : (options : TableOptions) (job : Job) (own : List Change) (neighbours given : List Neighbour) (tried handed rows : List TriedRun)
+pub rows_made : (options : TableOptions) (job : Job) (own : List Change) (neighbours given : List Neighbour)
+    (tried handed rows : List TriedRun)
     → neighbours ≡ neighbours_of job.description own → given ≡ neighbours → AllZip (IsTried options job) given tried →
     handed ≡ tried → rows ≡ in_order handed
     → AreInOrder handed rows → AreRows options job own rows
@@ -49,8 +50,15 @@ rows_made options job own neighbours given tried handed rows found lent each aga
 }
 
 -- the table of all
-pub sensitivity_made : (job : Job) (own : List Change) (options : TableOptions) (run : ComparedRun) (rows given : List TriedRun)
+pub sensitivity_made : (job : Job) (own : List Change) (options : TableOptions) (run : ComparedRun)
+    (rows given : List TriedRun)
     → IsRun options job run → AreRows options job own rows → given ≡ rows →
     IsSensitivityTable job own options (sensitivity_table job.description run given)
 sensitivity_made job own options run rows given as_it_is tried lent =
-    record { run = run; rows = rows; as_it_is = as_it_is; tried = tried; text_is = ap (sensitivity_table job.description run) lent }
+    record {
+      run = run;
+      rows = rows;
+      as_it_is = as_it_is;
+      tried = tried;
+      text_is = ap (sensitivity_table job.description run) lent;
+    }

@@ -15,12 +15,15 @@ use Rattle.rv_program.specs.RunView.{IsShown, IsViewOf, whole_run}
 use Rattle.rv_program.specs.declared.run_view.RunView.{RunView}
 
 -- what was written of the run that begins where a job's does
-pub view_of : (listed : ListedJob) {predictor : Guide} {h : Hardware} (end : GuidedHardware) (view : RunView) {ended : RunEnd} {text : List ℕ}
-    → h ≡ hardware_of listed.job → IsShown view listed (guided h predictor) end ended text → IsViewOf listed predictor view ended text
+pub view_of : (listed : ListedJob) {predictor : Guide} {h : Hardware} (end : GuidedHardware) (view : RunView)
+    {ended : RunEnd} {text : List ℕ}
+    → h ≡ hardware_of listed.job → IsShown view listed (guided h predictor) end ended text →
+    IsViewOf listed predictor view ended text
 view_of listed {predictor} end view {ended} {text} made shows =
     record { end = end; shows = subst (λ x. IsShown view listed (guided x predictor) end ended text) made shows }
 
-written_whole : {Is : Stop → List ℕ → Type 0} (IsShownBy : RunEnd → List ℕ → Type 0) (written : Result Stop TextError) (old new : Option (List ℕ))
+written_whole : {Is : Stop → List ℕ → Type 0} (IsShownBy : RunEnd → List ℕ → Type 0) (written : Result Stop TextError)
+    (old new : Option (List ℕ))
     → ((stop : Stop) (text : List ℕ) → Is stop text → IsShownBy (record { stop = stop; over = None }) text) →
     IsText Is written old new → IsText IsShownBy (whole_run written) old new
 written_whole IsShownBy (Ok stop) old new shows (text, is, appended) = (text, shows stop text is, appended)
@@ -38,8 +41,11 @@ shown_whole IsShownBy written old new writes same shows =
     subst (λ r. IsText IsShownBy r old new) (sym same) (written_whole IsShownBy written old new shows writes)
 
 -- a picture, with the marks that are asked for
-pub shown_as : {T : Type 0} {Is : T → List ℕ → Type 0} (IsShownBy : T → List ℕ → Type 0) (written : Result T TextError) (old new : Option (List ℕ))
-    → ((answer : T) (text : List ℕ) → Is answer text → IsShownBy answer text) → IsText Is written old new → IsText IsShownBy written old new
+pub shown_as : {T : Type 0} {Is : T → List ℕ → Type 0} (IsShownBy : T → List ℕ → Type 0) (written : Result T TextError)
+    (old new : Option (List ℕ))
+    → ((answer : T) (text : List ℕ) → Is answer text → IsShownBy answer text) → IsText Is written old new →
+    IsText IsShownBy written old new
 shown_as IsShownBy (Ok answer) old new shows (text, is, appended) = (text, shows answer text is, appended)
-shown_as IsShownBy (Err WriteFailed) old new shows (answer, text, is, beginning) = (answer, text, shows answer text is, beginning)
+shown_as IsShownBy (Err WriteFailed) old new shows (answer, text, is, beginning) =
+    (answer, text, shows answer text is, beginning)
 shown_as IsShownBy (Err Memory) old new shows nothing = nothing

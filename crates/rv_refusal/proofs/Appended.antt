@@ -6,7 +6,8 @@ use Rattle.std.proofs.lemmas.List.{flat_map_more, take_all, take_more}
 module _ {X A : Type 0} (text : X → List A) (items : List X) (place : ℕ) (front all : List A)
     (so_far : all ≡ front ++ flat_map text (take place items)) where
   -- with one item more, its text stands after those before it
-  pub appended_next : (other : X) → place < length items → all ++ text (get_or items place other) ≡ front ++ flat_map text (take (place + 1) items)
+  pub appended_next : (other : X) → place < length items → all ++ text (get_or items place other) ≡ front
+      ++ flat_map text (take (place + 1) items)
   appended_next other here =
       ap (λ l. l ++ text (get_or items place other)) so_far
       ∙ flat_map_more text front (take place items) (get_or items place other)

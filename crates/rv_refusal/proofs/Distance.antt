@@ -14,7 +14,8 @@ distance-taken [] zero before inside = refl
 distance-taken [] (suc taken) before inside = absurd (omega arith)
 distance-taken (byte ∷ bytes) zero before inside =
     let no_more : (n : ℕ) → n ≡ 0 + n = λ n. omega arith in no_more (distance (byte ∷ bytes) 0 before)
-distance-taken (byte ∷ bytes) (suc taken) before inside = ap (λ n. 1 + n) (distance-taken bytes taken before (omega arith)) ∙ omega arith
+distance-taken (byte ∷ bytes) (suc taken) before inside =
+    ap (λ n. 1 + n) (distance-taken bytes taken before (omega arith)) ∙ omega arith
 
 distance-first : (byte : ℕ) (bytes : List ℕ) (before : ℕ) →
     distance (byte ∷ bytes) 0 before
@@ -30,7 +31,8 @@ distance-size byte bytes (suc size) left positive inside =
     rw e (ap (λ n. 1 + n) (distance-taken bytes size left (omega arith)) ∙ omega arith)
 
 -- nothing is passed over that is no token
-pub distance_none : (line : List ℕ) (before : ℕ) → 0 < length line → None ≡ first_lexeme (get_or line 0 0) line → distance line 0 before ≡ 0
+pub distance_none : (line : List ℕ) (before : ℕ) → 0 < length line → None ≡ first_lexeme (get_or line 0 0) line →
+    distance line 0 before ≡ 0
 distance_none [] before some_bytes found_is = absurd (omega arith)
 distance_none (byte ∷ bytes) before some_bytes found_is = distance-first byte bytes before ∙ rw (← found_is) refl
 
@@ -40,13 +42,15 @@ pub distance_blank : (line : List ℕ) (before : ℕ) (found : Lexeme) → 0 < l
     distance line 0 before ≡ found.size + distance (drop found.size line) 0 before
 distance_blank [] before found some_bytes found_is blank positive inside = absurd (omega arith)
 distance_blank (byte ∷ bytes) before found some_bytes found_is blank positive inside =
-    distance-first byte bytes before ∙ rw (← found_is) (rw blank (distance-size byte bytes found.size before positive inside))
+    distance-first byte bytes before
+    ∙ rw (← found_is) (rw blank (distance-size byte bytes found.size before positive inside))
 
 -- the token that none is passed over for
 pub distance_here : (line : List ℕ) (found : Lexeme) → 0 < length line →
     Some found ≡ first_lexeme (get_or line 0 0) line → is_some found.token ≡ true → distance line 0 0 ≡ 0
 distance_here [] found some_bytes found_is token = absurd (omega arith)
-distance_here (byte ∷ bytes) found some_bytes found_is token = distance-first byte bytes 0 ∙ rw (← found_is) (rw token refl)
+distance_here (byte ∷ bytes) found some_bytes found_is token = distance-first byte bytes 0
+    ∙ rw (← found_is) (rw token refl)
 
 -- a token is passed over
 pub distance_token : (line : List ℕ) (before : ℕ) (found : Lexeme) → 0 < length line →

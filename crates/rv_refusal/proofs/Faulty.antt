@@ -12,7 +12,8 @@ pub take_none : {X : Type 0} (n : ℕ) → take {A = X} n [] ≡ []
 take_none zero = refl
 take_none (suc n) = refl
 
-take_first : {X : Type 0} (n : ℕ) (x : X) (others : List X) → take n (x ∷ others) ≡ take n (x ∷ []) ++ take (n - 1) others
+take_first : {X : Type 0} (n : ℕ) (x : X) (others : List X) → take n (x ∷ others) ≡ take n (x ∷ [])
+    ++ take (n - 1) others
 take_first zero x others = refl
 take_first (suc n) x others = let e : suc n - 1 ≡ n = omega arith in rw (e, take_none n) refl
 
@@ -22,7 +23,8 @@ pub shown_more : (count number : ℕ) (fault : Option AsmFault) (others : List F
     ≡ take (20 - count) (faulty_by number fault) ++ take (20 - (count + length (faulty_by number fault))) others
 shown_more count number None others = let e : count + 0 ≡ count = omega arith in rw (take_none (20 - count), e) refl
 shown_more count number (Some fault) others =
-    let e : 20 - (count + 1) ≡ 20 - count - 1 = omega arith in rw e (take_first (20 - count) (record { number = number; fault = fault }) others)
+    let e : 20 - (count + 1) ≡ 20 - count - 1 = omega arith in
+    rw e (take_first (20 - count) (record { number = number; fault = fault }) others)
 
 -- a line has one fault at most
 pub faulty_by_few : (number : ℕ) (fault : Option AsmFault) → length (faulty_by number fault) ≤ 1
@@ -50,7 +52,8 @@ module _ (number count : ℕ) (line : List ℕ) (lines behind : List (List ℕ))
   pub counted_next : (all : ℕ) → all ≡ count + length (faulty_from number lines) →
       all ≡ count + length (faulty_by number fault) + length (faulty_from (number + 1) behind)
   counted_next all before =
-      before ∙ ap (λ l. count + length l) line_is ∙ ap (λ n. count + n) (length-append (faulty_by number fault) _) ∙ omega arith
+      before ∙ ap (λ l. count + length l) line_is
+      ∙ ap (λ n. count + n) (length-append (faulty_by number fault) _) ∙ omega arith
 
 -- the lines of what is left
 pub further_is : (before number count : ℕ) (assembly rest : List ℕ) (shown : List Faulty) →

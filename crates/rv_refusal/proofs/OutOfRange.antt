@@ -55,18 +55,24 @@ has_ranges operation.Lui f address v = natural_fault 1048576 v (λ n. one (instr
 has_ranges operation.Auipc f address v = natural_fault 1048576 v (λ n. one (instr.Auipc f.rd n)) (λ n. refl)
 has_ranges operation.Jal f address v =
     distance_fault (negsuc 1048575) (pos 1048574) (v -ℤ pos address) (λ away. one (instr.Jal f.rd away)) (λ n. refl)
-has_ranges operation.Jalr f address v = ranged_fault (negsuc 2047) (pos 2047) v (λ n. one (instr.Jalr f.rd f.rs1 n)) (λ n. refl)
+has_ranges operation.Jalr f address v =
+    ranged_fault (negsuc 2047) (pos 2047) v (λ n. one (instr.Jalr f.rd f.rs1 n)) (λ n. refl)
 has_ranges (operation.Branch condition) f address v =
     distance_fault (negsuc 4095) (pos 4094) (v -ℤ pos address)
     (λ away. one (instr.Branch condition f.rs1 f.rs2 away)) (λ n. refl)
-has_ranges (operation.Load form) f address v = ranged_fault (negsuc 2047) (pos 2047) v (λ n. one (instr.Load form f.rd f.rs1 n)) (λ n. refl)
-has_ranges (operation.Store width) f address v = ranged_fault (negsuc 2047) (pos 2047) v (λ n. one (instr.Store width f.rs1 f.rs2 n)) (λ n. refl)
-has_ranges (operation.OpImmediate op) f address v = ranged_fault (negsuc 2047) (pos 2047) v (λ n. one (instr.OpImmediate op f.rd f.rs1 n)) (λ n. refl)
+has_ranges (operation.Load form) f address v =
+    ranged_fault (negsuc 2047) (pos 2047) v (λ n. one (instr.Load form f.rd f.rs1 n)) (λ n. refl)
+has_ranges (operation.Store width) f address v =
+    ranged_fault (negsuc 2047) (pos 2047) v (λ n. one (instr.Store width f.rs1 f.rs2 n)) (λ n. refl)
+has_ranges (operation.OpImmediate op) f address v =
+    ranged_fault (negsuc 2047) (pos 2047) v (λ n. one (instr.OpImmediate op f.rd f.rs1 n)) (λ n. refl)
 has_ranges (operation.Shift op) f address v = natural_fault 32 v (λ n. one (instr.Shift op f.rd f.rs1 n)) (λ n. refl)
-has_ranges (operation.Csr op) f address v = or_false _ _ (natural_fault 4096 f.csr (λ csr. one (instr.Csr op f.rd csr (Register f.rs1))) (λ n. refl))
+has_ranges (operation.Csr op) f address v =
+    or_false _ _ (natural_fault 4096 f.csr (λ csr. one (instr.Csr op f.rd csr (Register f.rs1))) (λ n. refl))
 has_ranges (operation.CsrImmediate op) f address v =
     elim (cases_Bool (is_between (pos 0) (pos 4095) f.csr)) [
-      | inl inside ↦ rw inside (natural_fault 32 v (λ n. one (instr.Csr op f.rd (unsigned_abs f.csr) (Immediate n))) (λ n. refl))
+      | inl inside ↦ rw inside
+          (natural_fault 32 v (λ n. one (instr.Csr op f.rd (unsigned_abs f.csr) (Immediate n))) (λ n. refl))
       | inr outside ↦ rw outside refl
     ]
 has_ranges (operation.Op op) f address v = refl

@@ -25,7 +25,8 @@ mark_hint line byte =
     then codes "hint: a character is written as its number, as 65 for A, and a string in double quotes\n"
     else (if is_relocation line byte then codes "hint: la loads the address of a symbol, without %hi and %lo\n"
     else (if byte == 34 then codes "hint: a string ends on its line, and after \\ stands one of n t \\ \" 0\n"
-    else (if is_mark (codes "*<>&|^~!") byte then codes "hint: a symbol and a number may be added or subtracted, as in table+4\n"
+    else (if is_mark (codes "*<>&|^~!") byte then codes
+    "hint: a symbol and a number may be added or subtracted, as in table+4\n"
     else (if byte == 61 then codes "hint: .equ gives a name its number, as in .equ size, 64\n"
     else (if is_bracket line byte then codes "hint: an address is written as offset(register), as in 8(sp)\n"
     else (if byte == 64 then codes "hint: a line of .type may be left out, and a comment begins with #\n"

@@ -70,7 +70,8 @@ gives_no_table key found =
 unfoldable pub table_expected : Key → List ℕ
 table_expected key =
     codes "expected: "
-    ++ (table_of key ++ (codes " is a table, as in a line '[" ++ (table_of key ++ codes "]' before those of its keys\n")))
+    ++ (table_of key ++ (codes " is a table, as in a line '["
+    ++ (table_of key ++ codes "]' before those of its keys\n")))
 
 -- what was expected at the line of a key: a table, or which values the key takes
 unfoldable pub key_expected : Key → KeyLine → List ℕ

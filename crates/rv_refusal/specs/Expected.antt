@@ -22,13 +22,15 @@ statement_lines fault name = option_map_or (form_lines fault name) (form_named n
 
 -- what was expected, whatever the statement
 unfoldable pub general_line : AsmFault → List ℕ
-general_line fault.BadToken = codes "expected: names, numbers up to 4294967295, strings that end on their line, and the marks , : ( ) + -\n"
+general_line fault.BadToken =
+    codes "expected: names, numbers up to 4294967295, strings that end on their line, and the marks , : ( ) + -\n"
 general_line fault.UnknownMnemonic = codes "expected: a statement that begins with an instruction or a directive\n"
 general_line fault.BadRegister = codes "expected: a register, x0 to x31, or its name in the calling convention\n"
 general_line fault.DuplicateSymbol = codes "expected: a symbol that is not defined above\n"
 general_line fault.TooLarge = codes "expected: at most 16777200 bytes of text and data\n"
 general_line fault.UnknownSymbol = codes "expected: a symbol that a label or .equ defines\n"
-general_line fault.Misaligned = codes "expected: an instruction or _start at a multiple of 4, and a target an even distance away\n"
+general_line fault.Misaligned =
+    codes "expected: an instruction or _start at a multiple of 4, and a target an even distance away\n"
 general_line _ = []
 
 -- what was expected at a fault of a line with these tokens

@@ -42,7 +42,8 @@ reads_as_label _ = false
 unfoldable pub directive_hint : List ℕ → List ℕ
 directive_hint name =
     if is_one_of idle_directives name then codes "hint: this line may be left out\n"
-    else (if is_one_of line_directives name then codes "hint: there are no macros and no conditions: the lines stand themselves\n"
+    else (if is_one_of line_directives name then codes
+    "hint: there are no macros and no conditions: the lines stand themselves\n"
     else (if is_one_of double_directives name then codes "hint: two words, the lower one first\n"
     else []))
 
@@ -100,9 +101,11 @@ products =
 -- what an instruction on registers is with a number in the place of one
 unfoldable pub with_number : List ℕ → List ℕ
 with_number name =
-    if is_one_of (codes "add" ∷ codes "and" ∷ codes "or" ∷ codes "xor" ∷ codes "slt" ∷ codes "sll" ∷ codes "srl" ∷ codes "sra" ∷ []) name
+    if is_one_of (codes "add" ∷ codes "and" ∷ codes "or" ∷ codes "xor" ∷ codes "slt" ∷ codes "sll" ∷ codes "srl"
+    ∷ codes "sra" ∷ []) name
     then codes "hint: with a number it is " ++ (name ++ codes "i\n")
-    else (if bytes_eq name (codes "sub") then codes "hint: with a number it is addi, and the number has the other sign\n"
+    else (if bytes_eq name (codes "sub") then codes
+    "hint: with a number it is addi, and the number has the other sign\n"
     else (if bytes_eq name (codes "mv") then codes "hint: with a number it is li\n"
     else (if is_one_of products name then codes "hint: it takes registers alone: li loads a number into one\n"
     else [])))
@@ -110,7 +113,8 @@ with_number name =
 -- an instruction loads or stores
 abbrev pub accesses_memory : List ℕ → Bool
 accesses_memory name =
-    is_one_of (codes "lb" ∷ codes "lh" ∷ codes "lw" ∷ codes "lbu" ∷ codes "lhu" ∷ codes "sb" ∷ codes "sh" ∷ codes "sw" ∷ []) name
+    is_one_of (codes "lb" ∷ codes "lh" ∷ codes "lw" ∷ codes "lbu" ∷ codes "lhu" ∷ codes "sb" ∷ codes "sh"
+    ∷ codes "sw" ∷ []) name
 
 -- an instruction has an offset with a register in parentheses
 abbrev pub takes_offset : List ℕ → Bool

@@ -55,7 +55,8 @@ near_or_keys known found = or_else (spelling_line found.name known) (table_keys 
 -- which key a name is in the table that it stands in
 unfoldable pub here_line : KeyLine → List ℕ
 here_line found =
-    option_map_or (λ table. codes "hint: here it is " ++ (table ++ (codes "." ++ (found.key ++ codes "\n")))) found.table []
+    option_map_or (λ table. codes "hint: here it is "
+    ++ (table ++ (codes "." ++ (found.key ++ codes "\n")))) found.table []
 
 -- the lines on an unknown name by the keys that have it in another table, or else by the known names that it may stand
 -- for, or by all that may stand there

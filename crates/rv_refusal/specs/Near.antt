@@ -49,7 +49,8 @@ directive_for name =
     else (if is_one_of (codes ".long" ∷ codes ".4byte" ∷ codes ".quad" ∷ codes ".dword" ∷ codes ".8byte" ∷ []) name
     then Some (codes ".word")
     else (if is_one_of (codes ".short" ∷ codes ".2byte" ∷ []) name then Some (codes ".half")
-    else (if is_one_of (codes ".org" ∷ codes ".fill" ∷ codes ".comm" ∷ codes ".lcomm" ∷ []) name then Some (codes ".zero")
+    else (if is_one_of (codes ".org" ∷ codes ".fill" ∷ codes ".comm" ∷ codes ".lcomm" ∷ []) name
+    then Some (codes ".zero")
     else (if is_one_of (codes ".rodata" ∷ codes ".rdata" ∷ codes ".bss" ∷ codes ".sdata" ∷ codes ".sbss" ∷ []) name
     then Some (codes ".data")
     else None))))

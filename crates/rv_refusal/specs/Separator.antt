@@ -32,7 +32,8 @@ part_hint before line =
     if bytes_eq (without_return line) (codes "%%")
     then codes "hint: at most two lines %% stand in a job, between its description, its arrivals and its assembly\n"
     else (if before == 0 && reads_described line then codes "is a line %% missing?\n"
-    else (if is_some (entry_on line) then codes "hint: arrivals are the second of three parts, with a line %% after them\n"
+    else (if is_some (entry_on line) then codes
+    "hint: arrivals are the second of three parts, with a line %% after them\n"
     else []))
 
 -- what is said of a line at fault of the assembly that so many lines of the job stand before, where it was to be a separator,

@@ -26,7 +26,8 @@ toml_line text = line_feeds (take (toml_up_to text (length text)) text) + 1
 unfoldable pub toml_expected : List ℕ → List ℕ → List ℕ
 toml_expected example line =
     if is_toml line then codes "expected: a key or a table that does not stand above\n"
-    else codes "expected: TOML, as in " ++ (example ++ codes ": a value for each key, strings in quotes, brackets closed, whole numbers up to 9223372036854775807\n")
+    else codes "expected: TOML, as in "
+    ++ (example ++ codes ": a value for each key, strings in quotes, brackets closed, whole numbers up to 9223372036854775807\n")
 
 -- the line of a part of the job, which has this name and so many lines before it, with which it ceases to be TOML, and
 -- whether it was to be a separator
@@ -34,7 +35,8 @@ unfoldable pub toml_lines : List ℕ → ℕ → List ℕ → List ℕ → List 
 toml_lines name before example part =
     let line = line_at (toml_line part) part in
     line_place name before (toml_line part)
-    ++ (codes "\n" ++ (shown_line line ++ (caret_below (blanks line) ++ (toml_expected example line ++ separator_hint line))))
+    ++ (codes "\n" ++ (shown_line line
+    ++ (caret_below (blanks line) ++ (toml_expected example line ++ separator_hint line))))
 
 -- the longest text whose line is looked for, since that reads the text again for each line
 abbrev pub most_searched : ℕ

@@ -17,17 +17,22 @@ abbrev pub checkpoint_seq : Checkpoint → ℕ
 checkpoint_seq c = c.seq
 
 -- a further producer, above every checkpoint
-below-define : (n : ℕ) (ps : List Producer) (p : Producer) → n ≤ p.seq → below seq_of n (ps ++ p ∷ []) ≡ below seq_of n ps
-below-define n ps p h = below-append seq_of n ps (p ∷ []) ∙ ap (λ qs. below seq_of n ps ++ qs) (below-goes seq_of n p [] h) ∙ append-nil _
+below-define : (n : ℕ) (ps : List Producer) (p : Producer) → n ≤ p.seq →
+    below seq_of n (ps ++ p ∷ []) ≡ below seq_of n ps
+below-define n ps p h = below-append seq_of n ps (p ∷ [])
+    ∙ ap (λ qs. below seq_of n ps ++ qs) (below-goes seq_of n p [] h) ∙ append-nil _
 
 -- a further producer with a number above every checkpoint changes none of them
-pub checkpoints-define : (ns : List ℕ) (ps : List Producer) (p : Producer) → AreBelow checkpoint_seq p.seq (map (checkpoint_of ps) ns)
+pub checkpoints-define : (ns : List ℕ) (ps : List Producer) (p : Producer) →
+    AreBelow checkpoint_seq p.seq (map (checkpoint_of ps) ns)
     → map (checkpoint_of (ps ++ p ∷ [])) ns ≡ map (checkpoint_of ps) ns
 checkpoints-define [] ps p are = refl
 checkpoints-define (n ∷ ns) ps p are =
     rw (
-      below-define (n + 1) ps p (omega (arith, AreBelow-head checkpoint_seq p.seq (checkpoint_of ps n) (map (checkpoint_of ps) ns) are)),
-      checkpoints-define ns ps p (AreBelow-tail checkpoint_seq p.seq (checkpoint_of ps n) (map (checkpoint_of ps) ns) are),
+      below-define (n + 1) ps p
+          (omega (arith, AreBelow-head checkpoint_seq p.seq (checkpoint_of ps n) (map (checkpoint_of ps) ns) are)),
+      checkpoints-define ns ps p
+          (AreBelow-tail checkpoint_seq p.seq (checkpoint_of ps n) (map (checkpoint_of ps) ns) are),
     ) refl
 
 -- a further checkpoint
@@ -44,7 +49,8 @@ oldest-stays false n p ps low = sym (below-stays seq_of n p ps low)
 
 oldest-goes : (b : Bool) (n : ℕ) (p : Producer) (ps : List Producer) → IsInOrder seq_of (p ∷ ps) → n ≤ p.seq
     → [] ≡ below seq_of n (if b then ps else p ∷ ps)
-oldest-goes true n p ps order high = sym (below-none seq_of n ps (λ k d lt. omega (arith, IsInOrder-head seq_of p ps order k d lt)))
+oldest-goes true n p ps order high =
+    sym (below-none seq_of n ps (λ k d lt. omega (arith, IsInOrder-head seq_of p ps order k d lt)))
 oldest-goes false n p ps order high = sym (below-stops seq_of n p ps order high)
 
 without_oldest-below : (register k n : ℕ) (ps : List Producer) → IsInOrder seq_of ps
@@ -52,13 +58,16 @@ without_oldest-below : (register k n : ℕ) (ps : List Producer) → IsInOrder s
 without_oldest-below register k n [] order = refl
 without_oldest-below register k n (p ∷ ps) order =
     elim (cases_lt p.seq n) [
-      | inl low ↦ ap (without_oldest register k) (below-stays seq_of n p ps low) ∙ oldest-stays (is_oldest register k (p ∷ ps)) n p ps low
-      | inr high ↦ ap (without_oldest register k) (below-stops seq_of n p ps order high) ∙ oldest-goes (is_oldest register k (p ∷ ps)) n p ps order high
+      | inl low ↦ ap (without_oldest register k) (below-stays seq_of n p ps low)
+          ∙ oldest-stays (is_oldest register k (p ∷ ps)) n p ps low
+      | inr high ↦ ap (without_oldest register k) (below-stops seq_of n p ps order high)
+          ∙ oldest-goes (is_oldest register k (p ∷ ps)) n p ps order high
     ]
 
 -- a producer taken from each checkpoint where it is the oldest leaves the checkpoints of the others
 pub checkpoints-retire : (register k : ℕ) (ns : List ℕ) (ps : List Producer) → IsInOrder seq_of ps
-    → map (checkpoint_without_oldest register k) (map (checkpoint_of ps) ns) ≡ map (checkpoint_of (without_oldest register k ps)) ns
+    → map (checkpoint_without_oldest register k) (map (checkpoint_of ps) ns)
+    ≡ map (checkpoint_of (without_oldest register k ps)) ns
 checkpoints-retire register k [] ps order = refl
 checkpoints-retire register k (n ∷ ns) ps order =
     rw (without_oldest-below register k (n + 1) ps order, checkpoints-retire register k ns ps order) refl
@@ -74,7 +83,8 @@ checkpoints-restore n (m ∷ ns) ps =
     ]
 
 checkpoints-choice : (b : Bool) (m : ℕ) (ns : List ℕ) (ps : List Producer)
-    → (if b then checkpoint_of ps m ∷ map (checkpoint_of ps) ns else map (checkpoint_of ps) ns) ≡ map (checkpoint_of ps) (if b then m ∷ ns else ns)
+    → (if b then checkpoint_of ps m ∷ map (checkpoint_of ps) ns else map (checkpoint_of ps) ns)
+    ≡ map (checkpoint_of ps) (if b then m ∷ ns else ns)
 checkpoints-choice true m ns ps = refl
 checkpoints-choice false m ns ps = refl
 
@@ -82,14 +92,18 @@ checkpoints-choice false m ns ps = refl
 pub checkpoints-filter : (test : ℕ → Bool) (ns : List ℕ) (ps : List Producer)
     → filter (λ c. test c.seq) (map (checkpoint_of ps) ns) ≡ map (checkpoint_of ps) (filter test ns)
 checkpoints-filter test [] ps = refl
-checkpoints-filter test (m ∷ ns) ps = rw (checkpoints-filter test ns ps) (checkpoints-choice (test m) m (filter test ns) ps)
+checkpoints-filter test (m ∷ ns) ps =
+    rw (checkpoints-filter test ns ps) (checkpoints-choice (test m) m (filter test ns) ps)
 
 -- the producers of a checkpoint that is held
 pub producers_at-held : (n : ℕ) (ns : List ℕ) (ps now : List Producer) → list_any (λ m. m == n) ns ≡ true
     → producers_at n (map (checkpoint_of ps) ns) now ≡ below seq_of (n + 1) ps
 producers_at-held n [] ps now held = absurd (cc)
 producers_at-held n (m ∷ ns) ps now held =
-    let go : (b : Bool) → (m == n) ≡ b → producers_at n (map (checkpoint_of ps) (m ∷ ns)) now ≡ below seq_of (n + 1) ps = λ b. elim b as (λ b. (m == n) ≡ b → producers_at n (map (checkpoint_of ps) (m ∷ ns)) now ≡ below seq_of (n + 1) ps) [
+    let go : (b : Bool) → (m == n) ≡ b → producers_at n (map (checkpoint_of ps) (m ∷ ns)) now
+    ≡ below seq_of (n + 1) ps =
+    λ b. elim b as (λ b. (m == n) ≡ b → producers_at n (map (checkpoint_of ps) (m ∷ ns)) now
+    ≡ below seq_of (n + 1) ps) [
       | true ↦ λ e. let same : m ≡ n = eqb-true m n e in rw (eq-eqb n m (sym same), same) refl
       | false ↦ λ e. rw (ne_eqb n m (λ same. eqb-false m n e (sym same))) (producers_at-held n ns ps now (rw e at held))
     ] in
@@ -100,7 +114,8 @@ pub producers_at-none : (n : ℕ) (ns : List ℕ) (ps now : List Producer) → l
     → producers_at n (map (checkpoint_of ps) ns) now ≡ now
 producers_at-none n [] ps now none = refl
 producers_at-none n (m ∷ ns) ps now none =
-    let go : (b : Bool) → (m == n) ≡ b → producers_at n (map (checkpoint_of ps) (m ∷ ns)) now ≡ now = λ b. elim b as (λ b. (m == n) ≡ b → producers_at n (map (checkpoint_of ps) (m ∷ ns)) now ≡ now) [
+    let go : (b : Bool) → (m == n) ≡ b → producers_at n (map (checkpoint_of ps) (m ∷ ns)) now ≡ now =
+    λ b. elim b as (λ b. (m == n) ≡ b → producers_at n (map (checkpoint_of ps) (m ∷ ns)) now ≡ now) [
       | true ↦ λ e. absurd (let t : true ≡ false = rw e at none in cc)
       | false ↦ λ e. rw (ne_eqb n m (λ same. eqb-false m n e (sym same))) (producers_at-none n ns ps now (rw e at none))
     ] in
@@ -114,7 +129,8 @@ AreBelow-checkpoints n [] ps = (λ are. All-nil (λ c. checkpoint_seq c < n), λ
 AreBelow-checkpoints n (m ∷ ns) ps =
     let rest = AreBelow-checkpoints n ns ps in
     let cs = map (checkpoint_of ps) ns in (
-      λ are. AreBelow-cons checkpoint_seq n (checkpoint_of ps m) cs (AreBelow-head (λ m. m) n m ns are) (rest.0 (AreBelow-tail (λ m. m) n m ns are)),
+      λ are. AreBelow-cons checkpoint_seq n (checkpoint_of ps m) cs (AreBelow-head (λ m. m) n m ns are)
+          (rest.0 (AreBelow-tail (λ m. m) n m ns are)),
       λ are. AreBelow-cons (λ m. m) n m ns (AreBelow-head checkpoint_seq n (checkpoint_of ps m) cs are)
           (rest.1 (AreBelow-tail checkpoint_seq n (checkpoint_of ps m) cs are)),
     )

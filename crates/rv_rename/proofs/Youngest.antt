@@ -12,7 +12,8 @@ use Rattle.rv_rename.specs.Renaming.{youngest, NoneAbove, is_oldest}
 use Rattle.rv_rename.specs.Kept.{IsTable}
 use Rattle.rv_rename.proofs.Prefixes.{seq_of}
 
-option_or-if : (b : Bool) (n : ℕ) (x y : Option ℕ) → option_or (if b then Some n else x) y ≡ (if b then Some n else option_or x y)
+option_or-if : (b : Bool) (n : ℕ) (x y : Option ℕ) → option_or (if b then Some n else x) y
+    ≡ (if b then Some n else option_or x y)
 option_or-if true n x y = refl
 option_or-if false n x y = refl
 
@@ -44,7 +45,8 @@ IsTable-push table ps p number is =
       producers = λ r h. rw (youngest-push r ps p)
           (by_register _ r p.register
           (λ same. rw (eq-eqb r p.register same, same) (get_or-set_same table p.register (Some p.seq) None within))
-          (λ ne. rw (ne_eqb r p.register ne) (get_or-set_other table p.register r (Some p.seq) None ne ∙ is.producers r h)));
+          (λ ne. rw (ne_eqb r p.register ne) (get_or-set_other table p.register r (Some p.seq) None ne
+          ∙ is.producers r h)));
     }
 
 youngest-head : (low n m : ℕ) (b : Bool) (later : Option ℕ) → low < m → ((k : ℕ) → later ≡ Some k → low < k)
@@ -61,7 +63,8 @@ youngest-above r low n (p ∷ ps) above e =
     (λ k. youngest-above r low k ps (All-tail (λ q. low < seq_of q) p ps above)) e
 
 -- where the oldest is the youngest of its register, no later one writes that register
-youngest-gone : (m : ℕ) (later first : Option ℕ) → ((k : ℕ) → later ≡ Some k → m < k) → option_or later first ≡ Some m → later ≡ None
+youngest-gone : (m : ℕ) (later first : Option ℕ) → ((k : ℕ) → later ≡ Some k → m < k) → option_or later first ≡ Some m →
+    later ≡ None
 youngest-gone m None first above e = refl
 youngest-gone m (Some k) first above e = let is : k ≡ m = cc in absurd (omega (arith, above k refl))
 
@@ -72,7 +75,8 @@ youngest-later m None other = absurd (other refl)
 youngest-others : (r : ℕ) (p : Producer) (ps : List Producer) → r ≢ p.register → youngest r (p ∷ ps) ≡ youngest r ps
 youngest-others r p ps ne = rw (ne_eqb r p.register ne) (option_or-none (youngest r ps))
 
-youngest-own : (r : ℕ) (p : Producer) (ps : List Producer) → r ≡ p.register → youngest r (p ∷ ps) ≡ option_or (youngest r ps) (Some p.seq)
+youngest-own : (r : ℕ) (p : Producer) (ps : List Producer) → r ≡ p.register →
+    youngest r (p ∷ ps) ≡ option_or (youngest r ps) (Some p.seq)
 youngest-own r p ps same = rw (eq-eqb r p.register same) refl
 
 is_oldest-parts : (register n : ℕ) (p : Producer) (ps : List Producer) → is_oldest register n (p ∷ ps) ≡ true
@@ -82,7 +86,8 @@ is_oldest-parts register n p ps oldest =
     (eqb-true n p.seq parts.0, eqb-true register p.register parts.1)
 
 -- once the oldest has retired, and was the youngest of its register, that register has none
-pub IsTable-retire : (table : List (Option ℕ)) (register n : ℕ) (ps : List Producer) → register < 32 → IsInOrder seq_of ps
+pub IsTable-retire : (table : List (Option ℕ)) (register n : ℕ) (ps : List Producer) → register < 32 →
+    IsInOrder seq_of ps
     → is_oldest register n ps ≡ true → IsTable table ps → slice_index_or table register None ≡ Some n
     → IsTable (slice_set table register None) (drop 1 ps)
 IsTable-retire table register n [] number order oldest is held = absurd (cc)
@@ -93,15 +98,19 @@ IsTable-retire table register n (p ∷ ps) number order oldest is held =
       places = length-set table register None ∙ is.places;
       producers = λ r h. by_register _ r register
           (λ same. let own : r ≡ p.register = same ∙ parts.1 in
-          let whole : option_or (youngest r ps) (Some p.seq) ≡ Some p.seq = sym (youngest-own r p ps own) ∙ (sym (is.producers r h) ∙ (rw same (held ∙ rw parts.0 refl))) in
-          let none : youngest r ps ≡ None = youngest-gone p.seq (youngest r ps) (Some p.seq) (λ k. youngest-above r p.seq k ps (IsInOrder-head seq_of p ps order)) whole in
+          let whole : option_or (youngest r ps) (Some p.seq) ≡ Some p.seq = sym (youngest-own r p ps own)
+          ∙ (sym (is.producers r h) ∙ (rw same (held ∙ rw parts.0 refl))) in
+          let none : youngest r ps ≡ None =
+          youngest-gone p.seq (youngest r ps) (Some p.seq)
+          (λ k. youngest-above r p.seq k ps (IsInOrder-head seq_of p ps order)) whole in
           rw none (rw same (get_or-set_same table register None None within)))
           (λ ne. let others : r ≢ p.register = λ e. ne (e ∙ sym parts.1) in
           get_or-set_other table register r None None ne ∙ (is.producers r h ∙ youngest-others r p ps others));
     }
 
 -- a younger producer of the register stays
-pub IsTable-keep : (table : List (Option ℕ)) (register n : ℕ) (ps : List Producer) → is_oldest register n ps ≡ true → IsTable table ps
+pub IsTable-keep : (table : List (Option ℕ)) (register n : ℕ) (ps : List Producer) → is_oldest register n ps ≡ true →
+    IsTable table ps
     → slice_index_or table register None ≢ Some n → IsTable table (drop 1 ps)
 IsTable-keep table register n [] oldest is other = absurd (cc)
 IsTable-keep table register n (p ∷ ps) oldest is other =
@@ -110,10 +119,13 @@ IsTable-keep table register n (p ∷ ps) oldest is other =
       places = is.places;
       producers = λ r h. by_register _ r register
           (λ same. let own : r ≡ p.register = same ∙ parts.1 in
-          let whole : slice_index_or table r None ≡ option_or (youngest r ps) (Some p.seq) = is.producers r h ∙ youngest-own r p ps own in
-          let differs : option_or (youngest r ps) (Some p.seq) ≢ Some p.seq = λ e. other (rw (← same) (whole ∙ (e ∙ rw parts.0 refl))) in
+          let whole : slice_index_or table r None ≡ option_or (youngest r ps) (Some p.seq) = is.producers r h
+          ∙ youngest-own r p ps own in
+          let differs : option_or (youngest r ps) (Some p.seq) ≢ Some p.seq =
+          λ e. other (rw (← same) (whole ∙ (e ∙ rw parts.0 refl))) in
           whole ∙ youngest-later p.seq (youngest r ps) differs)
-          (λ ne. let others : r ≢ p.register = λ e. ne (e ∙ sym parts.1) in is.producers r h ∙ youngest-others r p ps others);
+          (λ ne. let others : r ≢ p.register = λ e. ne (e ∙ sym parts.1) in
+          is.producers r h ∙ youngest-others r p ps others);
     }
 
 -- what a comparison of options reports
@@ -139,17 +151,22 @@ none-above : (r n : ℕ) (ps : List Producer) → youngest r ps ≡ None → Non
 none-above r n [] e = All-nil (IsNotAbove r n)
 none-above r n (p ∷ ps) e =
     by_register _ r p.register
-    (λ same. absurd (let some : option_or (youngest r ps) (Some p.seq) ≡ None = sym (youngest-own r p ps same) ∙ e in option_or-some (youngest r ps) p.seq some))
-    (λ ne. All-cons (IsNotAbove r n) p ps (λ same. absurd (ne same)) (none-above r n ps (sym (youngest-others r p ps ne) ∙ e)))
+    (λ same. absurd (let some : option_or (youngest r ps) (Some p.seq) ≡ None = sym (youngest-own r p ps same) ∙ e in
+    option_or-some (youngest r ps) p.seq some))
+    (λ ne. All-cons (IsNotAbove r n) p ps (λ same. absurd (ne same))
+    (none-above r n ps (sym (youngest-others r p ps ne) ∙ e)))
 
 -- the youngest producer of a register has the highest number
-pub NoneAbove-youngest : (r n : ℕ) (ps : List Producer) → IsInOrder seq_of ps → youngest r ps ≡ Some n → NoneAbove r n ps
+pub NoneAbove-youngest : (r n : ℕ) (ps : List Producer) → IsInOrder seq_of ps → youngest r ps ≡ Some n →
+    NoneAbove r n ps
 NoneAbove-youngest r n [] order e = absurd (cc)
 NoneAbove-youngest r n (p ∷ ps) order e =
     let above = IsInOrder-head seq_of p ps order in
-    let go : (later : Option ℕ) → youngest r ps ≡ later → NoneAbove r n (p ∷ ps) = λ later. elim later as (λ later. youngest r ps ≡ later → NoneAbove r n (p ∷ ps)) [
+    let go : (later : Option ℕ) → youngest r ps ≡ later → NoneAbove r n (p ∷ ps) =
+    λ later. elim later as (λ later. youngest r ps ≡ later → NoneAbove r n (p ∷ ps)) [
       | None ↦ λ is. All-cons (IsNotAbove r n) p ps
-          (λ same. let first : Some p.seq ≡ Some n = rw (youngest-own r p ps same, is) at e in let at : p.seq ≡ n = cc in omega arith)
+          (λ same. let first : Some p.seq ≡ Some n = rw (youngest-own r p ps same, is) at e in
+          let at : p.seq ≡ n = cc in omega arith)
           (none-above r n ps is)
       | Some m ↦ λ is. let at : m ≡ n = let whole : Some m ≡ Some n = rw is at e in cc in
           let later : youngest r ps ≡ Some n = is ∙ ap (λ k. Some k) at in

@@ -23,15 +23,20 @@ few_in_buffer same counted few = omega (arith, counted, ap (λ (h : Hardware). l
 
 -- the tally of no cycle, by what is lent of the hardware and what that holds inside
 pub begins_tallied : (arrivals : List Arrival) (first : GuidedHardware) (shown : Columns (Option Shown))
-    {inside lent : Hardware} {counts : StepCounts} {s : Speculated} {events : EventCounter} {places : Option RunPlaces} →
+    {inside lent : Hardware} {counts : StepCounts} {s : Speculated} {events : EventCounter}
+    {places : Option RunPlaces} →
     inside ≡ lent → lent ≡ first.hardware →
     (counts.retired ≡ 0) × ((counts.traps ≡ 0) × (counts.interrupts ≡ 0)) →
     s ≡ speculated_at inside → s.fetched ≤ 288 → events ≡ events_so_far lent.values (drain_end lent) no_events →
     places ≡ places_shown shown lent [] lent → length first.hardware.rob.entries ≤ 256 →
-    IsTallied counts s events (watched arrivals first [] first) × HasPlaced places places (watched arrivals first [] first)
-begins_tallied arrivals first shown {inside} {lent} {counts} {s} {events} {places} inside_is lent_is zeros speculated few_fetched
+    IsTallied counts s events (watched arrivals first [] first)
+    × HasPlaced places places (watched arrivals first [] first)
+begins_tallied arrivals first shown {inside} {lent} {counts} {s} {events} {places} inside_is lent_is zeros
+    speculated few_fetched
     happened placed few = (
-      tallied_nothing arrivals first counts s events (counts_nothing zeros) (speculated ∙ ap speculated_at (inside_is ∙ lent_is))
+      tallied_nothing arrivals first counts s events (counts_nothing zeros) (speculated
+          ∙ ap speculated_at (inside_is ∙ lent_is))
           few_fetched (happened ∙ ap (λ (h : Hardware). events_so_far h.values (drain_end h) no_events) lent_is),
-      placed_nothing arrivals shown first places (placed ∙ ap (λ (h : Hardware). places_shown shown h [] h) lent_is) few,
+      placed_nothing arrivals shown first places
+          (placed ∙ ap (λ (h : Hardware). places_shown shown h [] h) lent_is) few,
     )

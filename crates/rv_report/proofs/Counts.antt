@@ -13,7 +13,8 @@ count_by-more : {X : Type 0} (p : X → Bool) (xs : List X) (place : ℕ) (other
     count_by p (take (place + 1) xs) ≡ count_by p (take place xs) + (if p (get_or xs place other) then 1 else 0)
 count_by-more p xs place other here = go (p (get_or xs place other)) refl
   where
-    go : (b : Bool) → p (get_or xs place other) ≡ b → count_by p (take (place + 1) xs) ≡ count_by p (take place xs) + (if b then 1 else 0)
+    go : (b : Bool) → p (get_or xs place other) ≡ b → count_by p (take (place + 1) xs) ≡ count_by p (take place xs)
+        + (if b then 1 else 0)
     go true is = count_by_more_yes p xs place other here is
     go false is = count_by_more_no p xs place other here is ∙ omega arith
 
@@ -50,7 +51,8 @@ module _ {counts : StepCounts} (steps : List Step) (place : ℕ) (here : place <
       }
 
   more : (p : Step → Bool) (step : Step) (old new : ℕ) → step ≡ get_or steps place step →
-      old ≡ count_by p (take place steps) → new ≡ old + (if p step then 1 else 0) → new ≡ count_by p (take (place + 1) steps)
+      old ≡ count_by p (take place steps) → new ≡ old + (if p step then 1 else 0) →
+      new ≡ count_by p (take (place + 1) steps)
   more p step old new is before counted =
       counted ∙ (λ i. before i + (if p (is i) then 1 else 0)) ∙ sym (count_by-more p steps place step here)
 

@@ -17,11 +17,23 @@ pub taught_by_run : {arrivals : List Arrival} {limit : ℕ} {old : GuidedHardwar
     {hardware : Hardware} {predictor : Guide} → History arrivals old moments (guided hardware predictor) → (stop : Stop)
     → IsStop limit (reports_of moments) hardware stop → IsTaughtByRun arrivals limit old predictor
 taught_by_run {moments = moments} {hardware = hardware} passes stop stops =
-    record { reports = reports_of moments; hardware = hardware; stop = stop; cycles = cycles_shown passes; stops = stops }
+    record {
+      reports = reports_of moments;
+      hardware = hardware;
+      stop = stop;
+      cycles = cycles_shown passes;
+      stops = stops;
+    }
 
 -- the same of cycles whose trace was written
 pub taught_by_trace : {arrivals : List Arrival} {options : Options} {old new : GuidedHardware} {totals : Totals}
     {failed : Bool} {before after : Option (List ℕ)} → IsTraced arrivals options old new totals failed before after
     → IsTaughtByRun arrivals options.limit old new.predictor
 taught_by_trace {new = new} {totals = totals} traced =
-    record { reports = traced.reports; hardware = new.hardware; stop = totals.stop; cycles = traced.cycles; stops = traced.stops }
+    record {
+      reports = traced.reports;
+      hardware = new.hardware;
+      stop = totals.stop;
+      cycles = traced.cycles;
+      stops = traced.stops;
+    }

@@ -35,7 +35,8 @@ unfolding trace_lines
 trace_of-none true = refl
 trace_of-none false = refl
 
-trace_of-append : (shown : Bool) (xs ys : List Step) → trace_of shown (xs ++ ys) ≡ trace_of shown xs ++ trace_of shown ys
+trace_of-append : (shown : Bool) (xs ys : List Step) → trace_of shown (xs ++ ys)
+    ≡ trace_of shown xs ++ trace_of shown ys
 unfolding trace_lines
 trace_of-append true xs ys = flat_map-append step_line xs ys
 trace_of-append false xs ys = refl
@@ -55,14 +56,16 @@ counts_of-append xs ys = λ i. record {
 pub traced_report : {arrivals : List Arrival} {options : Options} {old
     new : GuidedHardware} {totals : Totals} {failed : Bool} {before mid : Option (List ℕ)}
     → (traced : IsTraced arrivals options old new totals failed before mid)
-    → IsRunReport arrivals options old totals.stop (trace_of options.trace (steps_of traced.reports) ++ end_of totals new.hardware options)
+    → IsRunReport arrivals options old totals.stop (trace_of options.trace (steps_of traced.reports)
+    ++ end_of totals new.hardware options)
 unfolding run_report
 traced_report {options = options} {new = new} traced = record {
   reports = traced.reports;
   new = new;
   cycles = traced.cycles;
   stops = traced.stops;
-  text_is = ap (λ (t : Totals). trace_of options.trace (steps_of traced.reports) ++ end_of t new.hardware options) traced.totals_are;
+  text_is = ap (λ (t : Totals). trace_of options.trace (steps_of traced.reports)
+      ++ end_of t new.hardware options) traced.totals_are;
 }
 
 -- what is said after a text that was said: a beginning of both where a write failed, and else both
@@ -85,13 +88,16 @@ traced_nothing counts output none = record {
   trace = Appends-same output output _ _ (sym (trace_of-none true)) (Appends-nothing output);
 }
 
-module _ {seen : Watched} {cycle : ℕ} {steps : List Step} {after : Hardware} {progress : Progress} (shown : IsShown seen cycle steps after progress)
-    {counts : StepCounts} {failed : Bool} {before mid : Option (List ℕ)} (traced : HasTraced counts failed seen.moments before mid) where
+module _ {seen : Watched} {cycle : ℕ} {steps : List Step} {after : Hardware} {progress : Progress}
+    (shown : IsShown seen cycle steps after progress)
+    {counts : StepCounts} {failed : Bool} {before mid : Option (List ℕ)}
+    (traced : HasTraced counts failed seen.moments before mid) where
   -- the steps of one more cycle can be counted
   pub room_for_more : HasRoom counts (length steps)
   room_for_more =
       let so_far = steps_of (reports_of seen.moments) in
-      let few : length so_far ≤ 8 * 2 ^ 40 = omega (arith, shown.few_before, moments_counted shown.passes, shown.number, shown.counted) in
+      let few : length so_far ≤ 8 * 2 ^ 40 =
+      omega (arith, shown.few_before, moments_counted shown.passes, shown.number, shown.counted) in
       rw traced.counted (record {
         retired = omega (arith, count_by-le-length is_retirement so_far, few, shown.few);
         traps = omega (arith, count_by-le-length is_trap so_far, few, shown.few);
@@ -99,7 +105,8 @@ module _ {seen : Watched} {cycle : ℕ} {steps : List Step} {after : Hardware} {
       })
 
   -- one more cycle, whose steps are counted and written
-  pub traced_on : (counts' : StepCounts) (failed' : Bool) (now : Option (List ℕ)) → counts' ≡ both_counts counts (counts_of steps)
+  pub traced_on : (counts' : StepCounts) (failed' : Bool) (now : Option (List ℕ)) →
+      counts' ≡ both_counts counts (counts_of steps)
       → IsSaid failed' before now (trace_lines (steps_of (reports_of seen.moments)) ++ trace_lines steps) →
       HasTraced counts' failed' (with_shown seen shown).moments before now
   traced_on counts' failed' now counted wrote =
@@ -107,7 +114,8 @@ module _ {seen : Watched} {cycle : ℕ} {steps : List Step} {after : Hardware} {
       let all : steps_of (reports_of (with_shown seen shown).moments) ≡ so_far ++ steps =
       shown_steps-push seen.moments _ ∙ ap (λ l. so_far ++ l) (sym shown.steps_are) in
       record {
-        counted = counted ∙ ap (λ c. both_counts c (counts_of steps)) traced.counted ∙ sym (ap counts_of all ∙ counts_of-append so_far steps);
+        counted = counted ∙ ap (λ c. both_counts c (counts_of steps)) traced.counted
+            ∙ sym (ap counts_of all ∙ counts_of-append so_far steps);
         trace = subst (IsSaid failed' before now) (sym (ap trace_lines all ∙ trace_of-append true so_far steps)) wrote;
       }
 
@@ -144,5 +152,6 @@ counted_to_the_end {run = run} counted off is output = rw is (record {
   totals_are =
       λ i. totals_with (counted.progress i)
       (record { retired = counted.retired i; traps = counted.traps i; interrupts = counted.interrupts i }) run.stop;
-  trace = subst (λ b. IsSaid false output output (trace_of b (steps_of (reports_of counted.moments)))) (sym off) (Appends-nothing output);
+  trace = subst (λ b. IsSaid false output output (trace_of b (steps_of (reports_of counted.moments)))) (sym off)
+      (Appends-nothing output);
 })

@@ -14,7 +14,8 @@ module _ (layout : Layout) (ram : List ℕ) where
   line_in address number = line_at (place_of address number)
 
   -- its word is the one that is seen at its place
-  pub line_is : (address number : ℕ) (word : Option ℕ) → word ≡ word_seen layout ram ((address + number * 4 % 2 ^ 32) % 2 ^ 32) →
+  pub line_is : (address number : ℕ) (word : Option ℕ) →
+      word ≡ word_seen layout ram ((address + number * 4 % 2 ^ 32) % 2 ^ 32) →
       memory_line ((address + number * 4 % 2 ^ 32) % 2 ^ 32) word ≡ line_in address number
   line_is address number word is =
       ap (memory_line ((address + number * 4 % 2 ^ 32) % 2 ^ 32)) is ∙ ap line_at (place_of_word address number)

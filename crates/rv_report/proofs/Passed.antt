@@ -299,7 +299,8 @@ module _ (cycle : ℕ) where
   moved-new : {number : ℕ} {ps now rows : List Passage} {fs : List Flight} → MovesOn cycle number ps now rows →
       Each (IsFetchedIn cycle) fs → Show fs now →
       (predicted rows ≡ map prediction_of now) × (length rows ≡ length ps + length now)
-  moved-new {number} (fetched {now}) new here = (numbered-predicted number here, omega (arith, length-numbered number now))
+  moved-new {number} (fetched {now}) new here =
+      (numbered-predicted number here, omega (arith, length-numbered number now))
   moved-new (stays ended moves) new here =
       let rest = moved-new moves new here in (rw ended rest.0, omega (arith, rest.1))
   moved-new (squashed flies none moves) new here =
@@ -329,7 +330,8 @@ module _ (cycle : ℕ) where
       }
 
   -- one that goes on is not squashed
-  goes-first : {f : Flight} {news : List Flight} {now : List Passage} → Show (f ∷ news) now → next_before cycle now ≡ None →
+  goes-first : {f : Flight} {news : List Flight} {now : List Passage} → Show (f ∷ news) now →
+      next_before cycle now ≡ None →
       f.fetched < cycle → ⊥
   goes-first (more {p = n} is here) none before =
       let first : nat_lt n.fetched cycle ≡ true = lt-ltb n.fetched cycle (omega (arith, is.fetched, before)) in
@@ -367,7 +369,8 @@ module _ (cycle : ℕ) where
       next-stands p n older (moved moves) flies later goes before (rw flies at show) here
 
   -- what none in flight is, and nothing squashed, is none but those that were so before
-  many-numbered : (test : Passage → Bool) → Fails test → (number : ℕ) {fs : List Flight} {ps : List Passage} → Show fs ps →
+  many-numbered : (test : Passage → Bool) → Fails test → (number : ℕ) {fs : List Flight} {ps : List Passage} →
+      Show fs ps →
       many test (numbered_from number ps) ≡ 0
   many-numbered test fails number nothing = refl
   many-numbered test fails number (more {p = p} shows rest) =
@@ -511,10 +514,12 @@ module _ {answers : Answers} {lines : Lines} {old new : Hardware} {report : Repo
   abbrev after : Speculated
   after = speculated_after number report.steps new.rob new.front new.pc s
 
-  cycle-counted : IsCounted s after (length t.rows) (length (still_open full).rows) report.steps (filter has_left full.rows)
+  cycle-counted : IsCounted s after (length t.rows) (length (still_open full).rows) report.steps
+      (filter has_left full.rows)
   cycle-counted =
       let squash = many-left was_squashed unsquashed full.rows in
-      let missed = many-moved number is_mispredicted unmissed (λ p. differ-none (prediction_of p)) moves (hardware-shows new) in
+      let missed = many-moved number is_mispredicted unmissed (λ p. differ-none (prediction_of p)) moves
+      (hardware-shows new) in
       let over = many-moved number was_ended unended (λ p. refl) moves (hardware-shows new) in
       let some = ap length (ap (map prediction_of) keeps.all_open) ∙ length-map t.rows prediction_of in
       record {
@@ -576,13 +581,15 @@ run-counted : {arrivals : List Arrival} {old new : GuidedHardware} {moments : Li
     × Keeps new.hardware last (speculated_in s moments)
 run-counted reached no_cycle within standing number s keeps =
     (record { fetched = omega arith; mispredicted = omega arith; ended = omega arith }, keeps)
-run-counted {arrivals} reached (cycled {moment = moment} {moments = moments} first rest) within standing number s keeps =
+run-counted {arrivals} reached (cycled {moment = moment} {moments = moments} first rest)
+    within standing number s keeps =
     let one = cycle-counted reached first.cycle standing.number number standing.kept s keeps in
     let next = next_cycle standing moment in
     let left = filter has_left next.passages.rows in
     let later = left_in (walk_from still_open (standing_after still_open next) moments) in
     let next_number = ap (λ (h : Hardware). h.cycle) first.cycle.others_stay in
-    let same : speculated_after standing.number moment.report.steps moment.after.rob moment.after.front moment.after.pc s
+    let same : speculated_after standing.number moment.report.steps moment.after.rob
+    moment.after.front moment.after.pc s
     ≡ speculated_by moment s =
     ap (λ n. speculated_after n moment.report.steps moment.after.rob moment.after.front moment.after.pc s)
     (omega (arith, number, next_number)) in
@@ -637,7 +644,8 @@ begins h =
     }
 
 -- what a run lost by what was counted of it is what its passages say
-pub losses-passed : {arrivals : List Arrival} {old new : GuidedHardware} {moments : List Moment} → Reachable old.hardware →
+pub losses-passed : {arrivals : List Arrival} {old new : GuidedHardware} {moments : List Moment} →
+    Reachable old.hardware →
     History arrivals old moments new → new.hardware.cycle ≤ 2 ^ 40 →
     losses_with (speculated_in (speculated_at old.hardware) moments) (counts_of (steps_of (reports_of moments)))
     (in_flight new.hardware.rob new.hardware.front)
@@ -656,7 +664,8 @@ losses-passed {old = old} {new} {moments} reached passes within =
       length-filter is_mispredicted (kept ++ left),
       mispredicted-all (kept ++ left),
     ) in
-    let squashed : (losses_with (speculated_in (speculated_at old.hardware) moments) (counts_of (steps_of (reports_of moments)))
+    let squashed : (losses_with (speculated_in (speculated_at old.hardware) moments)
+    (counts_of (steps_of (reports_of moments)))
     (in_flight new.hardware.rob new.hardware.front)).squashed ≡ losses.squashed = omega (
       arith,
       counted.0.fetched,

@@ -25,7 +25,8 @@ use Rattle.rv_report.specs.Tally.{HasPlaced}
 use Rattle.rv_report.specs.declared.shown.{Columns.Columns, Shown.Shown}
 
 -- something else, where a test is passed
-passed : {X : Type 0} (test : Bool) (x y : X) → option_map (λ (z : X). y) (cond test (Some x) None) ≡ cond test (Some y) None
+passed : {X : Type 0} (test : Bool) (x y : X) → option_map (λ (z : X). y) (cond test (Some x) None)
+    ≡ cond test (Some y) None
 passed true x y = refl
 passed false x y = refl
 
@@ -36,14 +37,16 @@ pub placed_nothing : (arrivals : List Arrival) (shown : Columns (Option Shown)) 
 placed_nothing arrivals shown h places begun few =
     let none = run_places h.hardware [] h.hardware in
     record {
-      placed = begun ∙ sym (passed (shows_places shown) none none) ∙ sym (ap (option_map (λ (p : RunPlaces). none)) begun);
+      placed = begun ∙ sym (passed (shows_places shown) none none)
+          ∙ sym (ap (option_map (λ (p : RunPlaces). none)) begun);
       places_add_up = add_up_nothing h.hardware;
       few_before = few;
       few_in_flight = few;
     }
 
 -- one more cycle
-module _ {seen : Watched} {cycle : ℕ} {steps : List Step} {after : Hardware} {progress : Progress} (shown : IsShown seen cycle steps after progress)
+module _ {seen : Watched} {cycle : ℕ} {steps : List Step} {after : Hardware} {progress : Progress}
+    (shown : IsShown seen cycle steps after progress)
     {start places : Option RunPlaces} (has : HasPlaced start places seen) where
   abbrev moment : Moment
   moment = record { report = shown.report; after = after }
@@ -61,11 +64,20 @@ module _ {seen : Watched} {cycle : ℕ} {steps : List Step} {after : Hardware} {
       let few_places : seen.now.hardware.values.dispatch_width ≤ 8 = omega (arith, wide, placed_now.wide) in
       let counted =
       places_counted seen.first.hardware seen.moments seen.now.hardware has.places_add_up few_places has.few_before in
-      let more = few_seen placed_now cycle (length seen.now.hardware.rob.entries) steps shown.number refl shown.steps_are has.few_in_flight in
+      let more = few_seen placed_now cycle (length seen.now.hardware.rob.entries) steps shown.number refl
+      shown.steps_are has.few_in_flight in
       record {
         before = has.few_in_flight;
         after = few;
-        room = omega (arith, counted, more, length-reports_of seen.moments, moments_counted shown.passes, shown.number, shown.counted);
+        room = omega (
+          arith,
+          counted,
+          more,
+          length-reports_of seen.moments,
+          moments_counted shown.passes,
+          shown.number,
+          shown.counted,
+        );
       }
 
   module _ (values : Values) (rob : ReorderBuffer) (front : FetchBuffer) (values_are : values ≡ after.values)
@@ -75,20 +87,26 @@ module _ {seen : Watched} {cycle : ℕ} {steps : List Step} {after : Hardware} {
     countable_by =
         subst (λ (v : Values). CanPlace v cycle steps rob front so_far) (sym values_are)
         (subst (λ (r : ReorderBuffer). CanPlace after.values cycle steps r front so_far) (sym rob_is)
-        (subst (λ (f : FetchBuffer). CanPlace after.values cycle steps after.rob f so_far) (sym front_is) (countable few)))
+        (subst (λ (f : FetchBuffer). CanPlace after.values cycle steps after.rob f so_far)
+        (sym front_is) (countable few)))
 
-    where_counted : (o : Option RunPlaces) → IfSome (option_map (λ (p : RunPlaces). so_far) o) (CanPlace values cycle steps rob front)
+    where_counted : (o : Option RunPlaces) →
+        IfSome (option_map (λ (p : RunPlaces). so_far) o) (CanPlace values cycle steps rob front)
     where_counted None = tt
     where_counted (Some begun) = countable_by
 
     -- it can be counted
     pub can_place : IfSome places (CanPlace values cycle steps rob front)
-    can_place = subst (λ (o : Option RunPlaces). IfSome o (CanPlace values cycle steps rob front)) (sym has.placed) (where_counted start)
+    can_place = subst (λ (o : Option RunPlaces). IfSome o (CanPlace values cycle steps rob front))
+        (sym has.placed) (where_counted start)
 
-    next : placed_after after.values cycle steps after.rob after.front so_far ≡ run_places seen.first.hardware (seen.moments ++ moment ∷ []) after
+    next : placed_after after.values cycle steps after.rob after.front so_far
+        ≡ run_places seen.first.hardware (seen.moments ++ moment ∷ []) after
     next =
-        let places_now = places_seen placed_now cycle (length seen.now.hardware.rob.entries) steps shown.number refl shown.steps_are in
-        let added = ap (λ c. with_cycle c (places_of seen.first.hardware seen.moments)) places_now ∙ sym (places_of-push moment shown.passes) in
+        let places_now = places_seen placed_now cycle (length seen.now.hardware.rob.entries) steps shown.number
+        refl shown.steps_are in
+        let added = ap (λ c. with_cycle c (places_of seen.first.hardware seen.moments)) places_now
+        ∙ sym (places_of-push moment shown.passes) in
         λ i. record { places = added i; in_flight = length after.rob.entries }
 
     one_more : (o : Option RunPlaces) →
@@ -103,7 +121,8 @@ module _ {seen : Watched} {cycle : ℕ} {steps : List Step} {after : Hardware} {
         places' ≡ option_map (placed_after values cycle steps rob front) places →
         HasPlaced start places' (with_shown seen shown)
     placed_on places' is = record {
-      placed = is ∙ (λ i. option_map (placed_after (values_are i) cycle steps (rob_is i) (front_is i)) (has.placed i)) ∙ one_more start;
+      placed = is ∙ (λ i. option_map (placed_after (values_are i) cycle steps (rob_is i) (front_is i)) (has.placed i))
+          ∙ one_more start;
       places_add_up = add_up-push moment shown.passes placed_now has.places_add_up;
       few_before = has.few_before;
       few_in_flight = few;
@@ -113,7 +132,9 @@ module _ {seen : Watched} {cycle : ℕ} {steps : List Step} {after : Hardware} {
 pub placed_at_end : {arrivals : List Arrival} {old new : GuidedHardware} {moments : List Moment}
     (shown : Columns (Option Shown)) (start places : Option RunPlaces) →
     start ≡ places_shown shown old.hardware [] old.hardware
-    → HasPlaced start places (watched arrivals old moments new) → places ≡ places_shown shown old.hardware moments new.hardware
+    → HasPlaced start places (watched arrivals old moments new) →
+    places ≡ places_shown shown old.hardware moments new.hardware
 placed_at_end {old = old} {new = new} {moments = moments} shown start places begun has =
     let all = run_places old.hardware moments new.hardware in
-    has.placed ∙ ap (option_map (λ (p : RunPlaces). all)) begun ∙ passed (shows_places shown) (run_places old.hardware [] old.hardware) all
+    has.placed ∙ ap (option_map (λ (p : RunPlaces). all)) begun
+    ∙ passed (shows_places shown) (run_places old.hardware [] old.hardware) all

@@ -24,7 +24,8 @@ module _ {X Y : Type 0} (f : X → Y) where
   picked-more p xs place x is =
       let here = get_or_from_slice_get xs place x x is in
       let front = filter p (take place xs) in
-      ap (map f) (filter_more p xs place x (slice_get_within xs place x is) ∙ ap (λ y. front ++ (if p y then y ∷ [] else [])) here)
+      ap (map f) (filter_more p xs place x (slice_get_within xs place x is)
+      ∙ ap (λ y. front ++ (if p y then y ∷ [] else [])) here)
       ∙ map-append f front (if p x then x ∷ [] else [])
       ∙ ap (λ l. map f front ++ l) (map-if (p x) x)
 

@@ -21,7 +21,8 @@ module _ (shown : Columns (Option Shown)) (names : List (List ℕ)) (runs : List
   within : place < length (enumerate_from 1 runs)
   within = omega (arith, length-enumerate_from 1 runs, below)
 
-  line_is : table_row shown (1 + place) (get_or names place []) run ≡ row_of shown names (get_or (enumerate_from 1 runs) place here)
+  line_is : table_row shown (1 + place) (get_or names place []) run
+      ≡ row_of shown names (get_or (enumerate_from 1 runs) place here)
   line_is =
       let before : place ≡ (1 + place) - 1 = omega arith in
       ap (λ n. table_row shown (1 + place) (get_or names n []) run) before
@@ -32,7 +33,8 @@ module _ (shown : Columns (Option Shown)) (names : List (List ℕ)) (runs : List
       Says contents a b (flat_map (row_of shown names) (take place (enumerate_from 1 runs)))
       → Says contents b c (table_row shown (1 + place) (get_or names place []) run) →
       Says contents a c (flat_map (row_of shown names) (take (place + 1) (enumerate_from 1 runs)))
-  row_said front last = says_at (row_of shown names) (enumerate_from 1 runs) place here within front (says_same line_is last)
+  row_said front last = says_at (row_of shown names) (enumerate_from 1 runs) place here within front
+      (says_same line_is last)
 
 -- the lines of all runs
 pub all_rows : (shown : Columns (Option Shown)) (names : List (List ℕ)) (runs : List ComparedRun) (place : ℕ) →
@@ -40,4 +42,5 @@ pub all_rows : (shown : Columns (Option Shown)) (names : List (List ℕ)) (runs 
     flat_map (row_of shown names) (take place (enumerate_from 1 runs))
     ≡ flat_map (row_of shown names) (enumerate_from 1 runs)
 all_rows shown names runs place is =
-    ap (flat_map (row_of shown names)) (take_all place (enumerate_from 1 runs) (omega (arith, is, length-enumerate_from 1 runs)))
+    ap (flat_map (row_of shown names))
+    (take_all place (enumerate_from 1 runs) (omega (arith, is, length-enumerate_from 1 runs)))

@@ -43,8 +43,16 @@ both-both a b c =
     let drains : a.drains + b.drains + c.drains ≡ a.drains + (b.drains + c.drains) = omega arith in
     let hits : a.hits + b.hits + c.hits ≡ a.hits + (b.hits + c.hits) = omega arith in
     let misses : a.misses + b.misses + c.misses ≡ a.misses + (b.misses + c.misses) = omega arith in
-    let write_backs : a.write_backs + b.write_backs + c.write_backs ≡ a.write_backs + (b.write_backs + c.write_backs) = omega arith in
-    λ i. record { branches = branches i; loads = loads i; drains = drains i; hits = hits i; misses = misses i; write_backs = write_backs i }
+    let write_backs : a.write_backs + b.write_backs + c.write_backs ≡ a.write_backs + (b.write_backs + c.write_backs) =
+    omega arith in
+    λ i. record {
+      branches = branches i;
+      loads = loads i;
+      drains = drains i;
+      hits = hits i;
+      misses = misses i;
+      write_backs = write_backs i;
+    }
 
 both-nothing : (a : Events) → both_events a no_events ≡ both_events no_events a
 both-nothing a =
@@ -54,7 +62,14 @@ both-nothing a =
     let hits : a.hits + 0 ≡ 0 + a.hits = omega arith in
     let misses : a.misses + 0 ≡ 0 + a.misses = omega arith in
     let write_backs : a.write_backs + 0 ≡ 0 + a.write_backs = omega arith in
-    λ i. record { branches = branches i; loads = loads i; drains = drains i; hits = hits i; misses = misses i; write_backs = write_backs i }
+    λ i. record {
+      branches = branches i;
+      loads = loads i;
+      drains = drains i;
+      hits = hits i;
+      misses = misses i;
+      write_backs = write_backs i;
+    }
 
 -- what one more cycle did
 events-push : {arrivals : List Arrival} {old now : GuidedHardware} {moments : List Moment} (values : Values)
@@ -64,7 +79,8 @@ events-push : {arrivals : List Arrival} {old now : GuidedHardware} {moments : Li
 events-push {old = old} values last ended = both-nothing (events_between values old.hardware last)
 events-push {old = old} {now = now} values last (cycled {moment = moment} {moments = moments} first rest) =
     ap (both_events (events_between values old.hardware moment)) (events-push values last rest)
-    ∙ sym (both-both (events_between values old.hardware moment) (events_in values moment.after moments) (events_between values now.hardware last))
+    ∙ sym (both-both (events_between values old.hardware moment) (events_in values moment.after moments)
+    (events_between values now.hardware last))
 
 one-or-none : (b : Bool) → (if b then 1 else 0) ≤ 1
 one-or-none true = omega arith
@@ -86,7 +102,14 @@ steps-few costs steps = record {
 
 pub drain-few : (costs : LoadCosts) (cost : Option ℕ) → AreAtMost 1 (events_of_drain costs cost)
 drain-few costs None =
-    record { branches = omega arith; loads = omega arith; drains = omega arith; hits = omega arith; misses = omega arith; write_backs = omega arith }
+    record {
+      branches = omega arith;
+      loads = omega arith;
+      drains = omega arith;
+      hits = omega arith;
+      misses = omega arith;
+      write_backs = omega arith;
+    }
 drain-few costs (Some cost) = record {
   branches = omega arith;
   loads = omega arith;
@@ -120,7 +143,8 @@ few-below events most more few below = record {
 cycle-few : (costs : LoadCosts) (cycle : ℕ) (steps : List Step) (before after : Option ℕ) →
     AreAtMost (length steps + 1) (events_by costs cycle steps before after)
 cycle-few costs cycle steps before after =
-    both-few (events_of_steps costs steps) (events_of_drain costs (begun cycle before after)) (length steps) 1 (steps-few costs steps)
+    both-few (events_of_steps costs steps) (events_of_drain costs (begun cycle before after)) (length steps) 1
+    (steps-few costs steps)
     (drain-few costs (begun cycle before after))
 
 none-few : AreAtMost 0 no_events
@@ -137,7 +161,8 @@ none-few =
 -- no cycle yet
 pub tallied_nothing : (arrivals : List Arrival) (h : GuidedHardware) (counts : StepCounts) (s : Speculated)
     (events : EventCounter) → counts ≡ counts_of [] → s ≡ speculated_at h.hardware → s.fetched ≤ 288
-    → events ≡ events_so_far h.hardware.values (drain_end h.hardware) no_events → IsTallied counts s events (watched arrivals h [] h)
+    → events ≡ events_so_far h.hardware.values (drain_end h.hardware) no_events →
+    IsTallied counts s events (watched arrivals h [] h)
 tallied_nothing arrivals h counts s events none begun few happened = record {
   counted = none;
   speculated = begun;
@@ -148,20 +173,43 @@ tallied_nothing arrivals h counts s events none begun few happened = record {
   steps_few = omega arith;
 }
 
-module _ {seen : Watched} {cycle : ℕ} {steps : List Step} {after : Hardware} {progress : Progress} (shown : IsShown seen cycle steps after progress)
+module _ {seen : Watched} {cycle : ℕ} {steps : List Step} {after : Hardware} {progress : Progress}
+    (shown : IsShown seen cycle steps after progress)
     {counts : StepCounts} {s : Speculated} {events : EventCounter} (tallied : IsTallied counts s events seen) where
   -- one more cycle can be counted
   pub room_for_steps : HasRoom counts (length steps)
   room_for_steps =
       let so_far = steps_of (reports_of seen.moments) in
       rw tallied.counted (record {
-        retired = omega (arith, count_by-le-length is_retirement so_far, tallied.steps_few, shown.few, shown.number, shown.counted);
-        traps = omega (arith, count_by-le-length is_trap so_far, tallied.steps_few, shown.few, shown.number, shown.counted);
-        interrupts = omega (arith, count_by-le-length is_interrupt so_far, tallied.steps_few, shown.few, shown.number, shown.counted);
+        retired = omega (
+          arith,
+          count_by-le-length is_retirement so_far,
+          tallied.steps_few,
+          shown.few,
+          shown.number,
+          shown.counted,
+        );
+        traps = omega (
+          arith,
+          count_by-le-length is_trap so_far,
+          tallied.steps_few,
+          shown.few,
+          shown.number,
+          shown.counted,
+        );
+        interrupts = omega (
+          arith,
+          count_by-le-length is_interrupt so_far,
+          tallied.steps_few,
+          shown.few,
+          shown.number,
+          shown.counted,
+        );
       })
 
   pub room_for_events : AreAtMost (2 ^ 62) events.counts
-  room_for_events = few-below events.counts (9 * seen.now.hardware.cycle) (2 ^ 62) tallied.events_few (omega (arith, shown.number, shown.counted))
+  room_for_events = few-below events.counts (9 * seen.now.hardware.cycle) (2 ^ 62) tallied.events_few
+      (omega (arith, shown.number, shown.counted))
 
   pub room_for_words : CanCount s
   room_for_words = record {
@@ -183,7 +231,8 @@ module _ {seen : Watched} {cycle : ℕ} {steps : List Step} {after : Hardware} {
   speculated_now s' is =
       let number : cycle ≡ after.cycle - 1 = omega (arith, shown.number, one_more) in
       is ∙ (λ i. speculated_after (number i) (shown.steps_are i) after.rob after.front after.pc (tallied.speculated i))
-      ∙ sym (speculated-push (speculated_at seen.first.hardware) seen.moments (record { report = shown.report; after = after }))
+      ∙ sym (speculated-push (speculated_at seen.first.hardware) seen.moments
+      (record { report = shown.report; after = after }))
 
   happened_now : (events' : EventCounter) → events' ≡ counted_after cycle steps (drain_end after) events
       → events' ≡ events_so_far seen.first.hardware.values (drain_end after)
@@ -207,34 +256,59 @@ module _ {seen : Watched} {cycle : ℕ} {steps : List Step} {after : Hardware} {
     happened = happened_now events' happened;
     fetched = omega (arith, fetched, tallied.fetched, one_more);
     mispredicted = omega (arith, mispredicted, tallied.mispredicted, one_more);
-    events_few = rw happened (few-below (both_events events.counts (events_by events.costs cycle steps events.drain_end (drain_end after)))
+    events_few = rw happened
+        (few-below (both_events events.counts (events_by events.costs cycle steps events.drain_end (drain_end after)))
         (9 * seen.now.hardware.cycle + (length steps + 1)) (9 * after.cycle)
         (both-few events.counts (events_by events.costs cycle steps events.drain_end (drain_end after))
         (9 * seen.now.hardware.cycle) (length steps + 1)
-        tallied.events_few (cycle-few events.costs cycle steps events.drain_end (drain_end after))) (omega (arith, shown.few, one_more)));
-    steps_few = omega (arith, ap length all_steps, length-append (steps_of (reports_of seen.moments)) steps, shown.few, tallied.steps_few, one_more);
+        tallied.events_few (cycle-few events.costs cycle steps events.drain_end (drain_end after)))
+        (omega (arith, shown.few, one_more)));
+    steps_few = omega (
+      arith,
+      ap length all_steps,
+      length-append (steps_of (reports_of seen.moments)) steps,
+      shown.few,
+      tallied.steps_few,
+      one_more,
+    );
   }
 
 module _ {arrivals : List Arrival} {old new : GuidedHardware} {moments : List
     Moment} {counts : StepCounts} {s : Speculated} {events : EventCounter}
     (tallied : IsTallied counts s events (watched arrivals old moments new)) where
   -- what ended can be counted together with what is in flight
-  pub room_at_end : (left : ℕ) → left ≤ 288 → new.hardware.cycle ≤ 2 ^ 40 → counts.retired + counts.traps + left < 2 ^ 64
+  pub room_at_end : (left : ℕ) → left ≤ 288 → new.hardware.cycle ≤ 2 ^ 40 →
+      counts.retired + counts.traps + left < 2 ^ 64
   room_at_end left few within =
       let all = steps_of (reports_of moments) in
-      rw tallied.counted (omega (arith, count_by-le-length is_retirement all, count_by-le-length is_trap all, tallied.steps_few, few, within))
+      rw tallied.counted (omega (
+        arith,
+        count_by-le-length is_retirement all,
+        count_by-le-length is_trap all,
+        tallied.steps_few,
+        few,
+        within,
+      ))
 
   -- what a run came to that ended
   pub tallied_to_the_end : {progress : Progress} {stop : Stop} {totals : Totals} {losses : Losses} {did : Events}
       {words : Columns (Option ℕ)} {places : Option RunPlaces} (options : TableOptions) (left : ℕ) →
-      Reachable old.hardware → new.hardware.cycle ≤ 2 ^ 40 → History arrivals old moments new → progress ≡ progress_of (reports_of moments)
+      Reachable old.hardware → new.hardware.cycle ≤ 2 ^ 40 → History arrivals old moments new →
+      progress ≡ progress_of (reports_of moments)
       → IsStop options.limit (reports_of moments) new.hardware stop → totals ≡ totals_with progress counts stop →
       left ≡ in_flight new.hardware.rob new.hardware.front → losses ≡ losses_with s counts left →
       did ≡ events.counts → words ≡ words_of options.shown new.hardware
       → places ≡ places_shown options.shown old.hardware moments new.hardware →
       AddUp old.hardware moments new.hardware → AreLostFor arrivals old.hardware moments
-      → RunsTo arrivals options old (record { totals = totals; losses = losses; events = did; words = words; places = places })
-  tallied_to_the_end {stop = stop} options left reached within passes counted stops totals_are left_is losses_are did_are words_are
+      → RunsTo arrivals options old (record {
+        totals = totals;
+        losses = losses;
+        events = did;
+        words = words;
+        places = places;
+      })
+  tallied_to_the_end {stop = stop} options left reached within passes counted stops totals_are left_is
+      losses_are did_are words_are
       places_are add_up lost_for = rw totals_are (record {
         moments = moments;
         new = new;

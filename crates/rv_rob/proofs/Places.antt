@@ -11,7 +11,8 @@ pub record IsPlace (i n oldest : ℕ) (es : List Entry) : Type 0 where
   pub held : oldest ≤ n → i ≡ n - oldest
   pub retired : n < oldest → length es ≤ i
 
-by_place : (P : Type 0) (i n oldest : ℕ) (es : List Entry) → IsPlace i n oldest es → (n ≡ oldest + i → P) → (n < oldest → length es ≤ i → P) → P
+by_place : (P : Type 0) (i n oldest : ℕ) (es : List Entry) → IsPlace i n oldest es → (n ≡ oldest + i → P) →
+    (n < oldest → length es ≤ i → P) → P
 by_place P i n oldest es place at older =
     elim (cases_lt n oldest) [
       | inl lt ↦ older lt (place.retired lt)
@@ -42,9 +43,11 @@ module _ (change : Entry → Entry) where
   with_entry-distance i n oldest [] x e held = cc
   with_entry-distance zero n oldest (y ∷ es) x e held = rw (eq-eqb n oldest (omega arith)) (cc)
   with_entry-distance (suc i) n oldest (y ∷ es) x e held =
-      rw (ne_eqb n oldest (omega arith)) (ap (λ ys. y ∷ ys) (with_entry-distance i n (oldest + 1) es x (omega arith) held))
+      rw (ne_eqb n oldest (omega arith))
+      (ap (λ ys. y ∷ ys) (with_entry-distance i n (oldest + 1) es x (omega arith) held))
 
-  with_entry-past : (i n oldest : ℕ) (es : List Entry) → n ≡ oldest + i → slice_get es i ≡ None → with_entry change n oldest es ≡ es
+  with_entry-past : (i n oldest : ℕ) (es : List Entry) → n ≡ oldest + i → slice_get es i ≡ None →
+      with_entry change n oldest es ≡ es
   with_entry-past i n oldest [] e none = refl
   with_entry-past zero n oldest (y ∷ es) e none = cc
   with_entry-past (suc i) n oldest (y ∷ es) e none =
@@ -56,16 +59,19 @@ module _ (change : Entry → Entry) where
       rw (ne_eqb n oldest (omega arith)) (ap (λ ys. y ∷ ys) (with_entry-older n (oldest + 1) es (omega arith)))
 
   -- a change of an entry that is held is a write at its place
-  pub with_entry-write : (i n oldest : ℕ) (es : List Entry) (x : Entry) → IsPlace i n oldest es → slice_get es i ≡ Some x
+  pub with_entry-write : (i n oldest : ℕ) (es : List Entry) (x : Entry) → IsPlace i n oldest es →
+      slice_get es i ≡ Some x
       → with_entry change n oldest es ≡ slice_set es i (change x)
   with_entry-write i n oldest es x place held =
       by_place _ i n oldest es place (λ at. with_entry-distance i n oldest es x at held)
       (λ older past. let none = slice_get_past es i past in cc)
 
   -- a change of an entry that is not held changes nothing
-  pub with_entry-none : (i n oldest : ℕ) (es : List Entry) → IsPlace i n oldest es → slice_get es i ≡ None → with_entry change n oldest es ≡ es
+  pub with_entry-none : (i n oldest : ℕ) (es : List Entry) → IsPlace i n oldest es → slice_get es i ≡ None →
+      with_entry change n oldest es ≡ es
   with_entry-none i n oldest es place none =
-      by_place _ i n oldest es place (λ at. with_entry-past i n oldest es at none) (λ older past. with_entry-older n oldest es older)
+      by_place _ i n oldest es place (λ at. with_entry-past i n oldest es at none)
+      (λ older past. with_entry-older n oldest es older)
 
 -- what is below a number is the beginning of the list
 pub entries_below-take : (i n oldest : ℕ) (es : List Entry) → i ≡ n - oldest → entries_below n oldest es ≡ take i es

@@ -7,7 +7,8 @@ use Rattle.rv_isa.proofs.LegalKeys.{each_legal}
 use Rattle.rv_sensitivity.specs.Neighbours.{is_legal, legal_machine}
 
 -- a machine that is made exactly where its values are legal is the legal machine of these values
-pub made_where_legal : (v : Values) (made : Option Values) → (IsSome made ↔ IsLegal v) → IfSome made (λ d. d ≡ v) → made ≡ legal_machine v
+pub made_where_legal : (v : Values) (made : Option Values) → (IsSome made ↔ IsLegal v) → IfSome made (λ d. d ≡ v) →
+    made ≡ legal_machine v
 unfolding is_legal
 made_where_legal v None is same = elim (cases_Bool (is_legal v)) [
   | inl legal ↦ let impossible : IsSome {T = Values} None = is.1 ((each_legal v).0 legal) in absurd (cc)

@@ -21,7 +21,8 @@ use Rattle.rv_sentences.proofs.CountsGrow.{with_last_at}
 last_flusher-push : (before : Option ℕ) (cycles : List FollowedCycle) (last : FollowedCycle) →
     last_flusher before (cycles ++ last ∷ []) ≡ flusher_in last.after last.passages.rows (last_flusher before cycles)
 last_flusher-push before [] last = refl
-last_flusher-push before (cycle ∷ cycles) last = last_flusher-push (flusher_in cycle.after cycle.passages.rows before) cycles last
+last_flusher-push before (cycle ∷ cycles) last =
+    last_flusher-push (flusher_in cycle.after cycle.passages.rows before) cycles last
 
 accounts_from-push : (before : Option ℕ) (cycles : List FollowedCycle) (last : FollowedCycle)
     → accounts_from before (cycles ++ last ∷ [])
@@ -32,10 +33,12 @@ accounts_from-push before (cycle ∷ cycles) last =
     (accounts_from-push (flusher_in cycle.after cycle.passages.rows before) cycles last)
 
 -- one more cycle, with these passages at its end
-module _ {arrivals : List Arrival} {old now : GuidedHardware} {moments : List Moment} (moment : Moment) (passes : History arrivals old moments now)
+module _ {arrivals : List Arrival} {old now : GuidedHardware} {moments : List Moment} (moment : Moment)
+    (passes : History arrivals old moments now)
     {rows : List Passage} (rows_are : rows ≡ (last_cycle still_open passes moment).passages.rows) where
   -- the line that flushed last, with one cycle more
-  pub flusher-push : flusher_in moment.after rows (flusher_of old.hardware moments) ≡ flusher_of old.hardware (moments ++ moment ∷ [])
+  pub flusher-push : flusher_in moment.after rows (flusher_of old.hardware moments)
+      ≡ flusher_of old.hardware (moments ++ moment ∷ [])
   flusher-push =
       sym (
       ap (last_flusher None) (walk-push still_open passes moment)
@@ -48,7 +51,8 @@ module _ {arrivals : List Arrival} {old now : GuidedHardware} {moments : List Mo
   accounts-push =
       ap (accounts_from None) (walk-push still_open passes moment)
       ∙ accounts_from-push None (walk still_open old.hardware moments) (last_cycle still_open passes moment)
-      ∙ ap (λ ps. accounts_of old.hardware moments ++ account_of moment.after ps (flusher_of old.hardware moments) ∷ []) (sym rows_are)
+      ∙ ap (λ ps. accounts_of old.hardware moments
+      ++ account_of moment.after ps (flusher_of old.hardware moments) ∷ []) (sym rows_are)
 
   -- the words that the cycles are on account of
   pub heads-push : (values : Values) →
@@ -56,7 +60,8 @@ module _ {arrivals : List Arrival} {old now : GuidedHardware} {moments : List Mo
       (notes_of values (count_at itself (accounts_of old.hardware moments)))
       ≡ notes_of values (count_at itself (accounts_of old.hardware (moments ++ moment ∷ [])))
   heads-push values =
-      with_last_at values itself (accounts_of old.hardware moments) (account_of moment.after rows (flusher_of old.hardware moments))
+      with_last_at values itself (accounts_of old.hardware moments)
+      (account_of moment.after rows (flusher_of old.hardware moments))
       ∙ ap (λ all. notes_of values (count_at itself all)) (sym accounts-push)
 
   -- the cycles that are on account of none
@@ -77,15 +82,20 @@ module _ {arrivals : List Arrival} {old now : GuidedHardware} {moments : List Mo
         one_more_counted false n = omega arith
 
 -- each cycle is on account of one
-length-accounts_from : (before : Option ℕ) (cycles : List FollowedCycle) → length (accounts_from before cycles) ≡ length cycles
+length-accounts_from : (before : Option ℕ) (cycles : List FollowedCycle) →
+    length (accounts_from before cycles) ≡ length cycles
 length-accounts_from before [] = refl
-length-accounts_from before (cycle ∷ cycles) = ap suc (length-accounts_from (flusher_in cycle.after cycle.passages.rows before) cycles)
+length-accounts_from before (cycle ∷ cycles) =
+    ap suc (length-accounts_from (flusher_in cycle.after cycle.passages.rows before) cycles)
 
 -- a walk has a cycle for each
-pub length-walk_from : (standing : Standing) (moments : List Moment) → length (walk_from still_open standing moments) ≡ length moments
+pub length-walk_from : (standing : Standing) (moments : List Moment) →
+    length (walk_from still_open standing moments) ≡ length moments
 length-walk_from standing [] = refl
-length-walk_from standing (moment ∷ moments) = ap suc (length-walk_from (standing_after still_open (next_cycle standing moment)) moments)
+length-walk_from standing (moment ∷ moments) =
+    ap suc (length-walk_from (standing_after still_open (next_cycle standing moment)) moments)
 
 -- and each is on one account
 pub length-accounts : (h : Hardware) (moments : List Moment) → length (accounts_of h moments) ≡ length moments
-length-accounts h moments = length-accounts_from None (walk still_open h moments) ∙ length-walk_from (standing_at h) moments
+length-accounts h moments = length-accounts_from None (walk still_open h moments)
+    ∙ length-walk_from (standing_at h) moments

@@ -33,7 +33,8 @@ module _ (cycle : ℕ) (unit before : Bool) (rows : List Passage) (place : ℕ) 
   module _ (p : Passage) (within : place < length rows) (read : p ≡ get_or rows place p) where
     addresses : have_addresses cycle before (take (place + 1) rows) ≡ has && not (lacks_address cycle p)
     addresses =
-        ap (have_addresses cycle before) (take_more rows place p within ∙ ap (λ q. take place rows ++ q ∷ []) (sym read))
+        ap (have_addresses cycle before) (take_more rows place p within
+        ∙ ap (λ q. take place rows ++ q ∷ []) (sym read))
         ∙ addresses-push cycle before (take place rows) p
 
     from_here : drop place rows ≡ p ∷ drop (place + 1) rows
@@ -41,7 +42,8 @@ module _ (cycle : ℕ) (unit before : Bool) (rows : List Passage) (place : ℕ) 
 
     -- so do those from the next place on
     pub stays_on : (old mid new : Stays) → mid ≡ with_stay (stay_in cycle unit has p) old →
-        new ≡ with_stays (stays_among cycle unit (have_addresses cycle before (take (place + 1) rows)) (drop (place + 1) rows)) mid →
+        new ≡ with_stays (stays_among cycle unit (have_addresses cycle before (take (place + 1) rows))
+        (drop (place + 1) rows)) mid →
         new ≡ with_stays (stays_among cycle unit has (drop place rows)) old
     stays_on old mid new first rest =
         rest
@@ -50,7 +52,8 @@ module _ (cycle : ℕ) (unit before : Bool) (rows : List Passage) (place : ℕ) 
 
     -- and the oldest wait is the same
     pub oldest_on : (old mid new : Option ℕ) → mid ≡ option_or old (awaited_word (stay_in cycle unit has p)) →
-        new ≡ option_or mid (oldest_awaited (stays_among cycle unit (have_addresses cycle before (take (place + 1) rows)) (drop (place + 1) rows))) →
+        new ≡ option_or mid (oldest_awaited
+        (stays_among cycle unit (have_addresses cycle before (take (place + 1) rows)) (drop (place + 1) rows))) →
         new ≡ option_or old (oldest_awaited (stays_among cycle unit has (drop place rows)))
     oldest_on old mid new first rest =
         rest

@@ -18,12 +18,14 @@ total f a (suc n) = f a + total f (a + 1) n
 sum_is_total : (f : ℕ → ℕ) (a n : ℕ) → sum (map f (range_with_len a n)) ≡ total f a n
 unfolding total
 sum_is_total f a zero = refl
-sum_is_total f a (suc n) = sum_by-cons (λ (c : ℕ). c) (f a) (map f (range_with_len (a + 1) n)) ∙ ap (λ t. f a + t) (sum_is_total f (a + 1) n)
+sum_is_total f a (suc n) = sum_by-cons (λ (c : ℕ). c) (f a) (map f (range_with_len (a + 1) n))
+    ∙ ap (λ t. f a + t) (sum_is_total f (a + 1) n)
 
 total_none : (f : ℕ → ℕ) (a n : ℕ) → ((w : ℕ) → a ≤ w → f w ≡ 0) → total f a n ≡ 0
 unfolding total
 total_none f a zero none = refl
-total_none f a (suc n) none = omega (arith, none a (omega arith), total_none f (a + 1) n (λ w from. none w (omega (arith, from))))
+total_none f a (suc n) none =
+    omega (arith, none a (omega arith), total_none f (a + 1) n (λ w from. none w (omega (arith, from))))
 
 total_both : (f g : ℕ → ℕ) (a n : ℕ) → total (λ w. f w + g w) a n ≡ total f a n + total g a n
 unfolding total
@@ -46,12 +48,14 @@ one_place place a (suc n) = by_first (place == a) refl (one_place place (a + 1) 
       at_word (Some place) a + total (at_word (Some place)) (a + 1) n ≤ 1
   by_first true here rest =
       let same = eqb-true place a here in
-      let others = total_none (at_word (Some place)) (a + 1) n (λ w from. at_word-other (Some place) w (ne_eqb place w (λ is. omega (arith, is, same, from)))) in
+      let others = total_none (at_word (Some place)) (a + 1) n
+      (λ w from. at_word-other (Some place) w (ne_eqb place w (λ is. omega (arith, is, same, from)))) in
       rw here (omega (arith, others))
   by_first false here rest = rw here (omega (arith, rest))
 
 places_once : (place : Option ℕ) (a n : ℕ) → total (at_word place) a n ≤ 1
-places_once None a n = let none = total_none (at_word None) a n (λ w from. at_word-other None w refl) in omega (arith, none)
+places_once None a n = let none = total_none (at_word None) a n (λ w from. at_word-other None w refl) in
+    omega (arith, none)
 places_once (Some place) a n = one_place place a n
 
 module _ {X : Type 0} (place : X → Option ℕ) where
@@ -61,7 +65,8 @@ module _ {X : Type 0} (place : X → Option ℕ) where
   counts_within (x ∷ xs) a n =
       let each : (w : ℕ) → count_at place (x ∷ xs) w ≡ at_word (place x) w + count_at place xs w =
       λ w. sum_by-cons (λ (y : X). at_word (place y) w) x xs in
-      let apart : total (count_at place (x ∷ xs)) a n ≡ total (λ w. at_word (place x) w + count_at place xs w) a n = λ i. total (λ w. each w i) a n in
+      let apart : total (count_at place (x ∷ xs)) a n ≡ total (λ w. at_word (place x) w + count_at place xs w) a n =
+      λ i. total (λ w. each w i) a n in
       let both = total_both (at_word (place x)) (count_at place xs) a n in
       omega (arith, apart, both, places_once (place x) a n, counts_within xs a n)
 
@@ -92,21 +97,25 @@ counted_few counts word n is = counted_by counts.words (word - counts.first) n (
 sum_set : (counts : List ℕ) (i n : ℕ) → slice_get counts i ≡ Some n → sum (slice_set counts i (n + 1)) ≡ sum counts + 1
 sum_set [] i n is = absurd cc
 sum_set (count ∷ counts) zero n is = omega (arith, sum_cons (n + 1) counts, sum_cons count counts, ap or_nothing is)
-sum_set (count ∷ counts) (suc i) n is = omega (arith, sum_cons count (slice_set counts i (n + 1)), sum_cons count counts, sum_set counts i n is)
+sum_set (count ∷ counts) (suc i) n is =
+    omega (arith, sum_cons count (slice_set counts i (n + 1)), sum_cons count counts, sum_set counts i n is)
 
 sum_at : (counts : Notes ℕ) (word : ℕ) (below : Bool) → nat_lt word counts.first ≡ below → (got : Option ℕ) →
     slice_get counts.words (word - counts.first) ≡ got
     → sum (with_one (Some word) counts).words ≤ sum counts.words + 1
 sum_at counts word true is got got_is = rw is (omega arith)
 sum_at counts word false is None got_is = rw (is, got_is) (omega arith)
-sum_at counts word false is (Some n) got_is = rw (is, got_is, is) (omega (arith, sum_set counts.words (word - counts.first) n got_is))
+sum_at counts word false is (Some n) got_is =
+    rw (is, got_is, is) (omega (arith, sum_set counts.words (word - counts.first) n got_is))
 
 -- one thing more is counted once at most
 pub sum_with_one : (place : Option ℕ) (counts : Notes ℕ) → sum (with_one place counts).words ≤ sum counts.words + 1
 sum_with_one None counts = omega arith
-sum_with_one (Some word) counts = sum_at counts word (nat_lt word counts.first) refl (slice_get counts.words (word - counts.first)) refl
+sum_with_one (Some word) counts =
+    sum_at counts word (nat_lt word counts.first) refl (slice_get counts.words (word - counts.first)) refl
 
 pub sum_with_all : {X : Type 0} (place : X → Option ℕ) (xs : List X) (counts : Notes ℕ) →
     sum (with_all place xs counts).words ≤ sum counts.words + length xs
 sum_with_all place [] counts = omega arith
-sum_with_all place (x ∷ xs) counts = omega (arith, sum_with_one (place x) (with_all place xs counts), sum_with_all place xs counts)
+sum_with_all place (x ∷ xs) counts =
+    omega (arith, sum_with_one (place x) (with_all place xs counts), sum_with_all place xs counts)

@@ -14,9 +14,11 @@ with_one_at values None old new are =
     let same : (w : ℕ) → old w ≡ new w = λ w. omega (arith, are w) in
     λ i. notes_of values (λ w. same w i)
 with_one_at values (Some word) old new are =
-    let here : old word + 1 ≡ new word = sym (are word ∙ ap (λ test. old word + cond test 1 0) (eq-eqb word word refl)) in
+    let here : old word + 1 ≡ new word =
+    sym (are word ∙ ap (λ test. old word + cond test 1 0) (eq-eqb word word refl)) in
     let others : (w : ℕ) → (w ≡ word → ⊥) → old w ≡ new w =
-    λ w is_not. let more = are w ∙ ap (λ test. old w + cond test 1 0) (ne_eqb word w (λ is. is_not (sym is))) in omega (arith, more) in
+    λ w is_not. let more = are w ∙ ap (λ test. old w + cond test 1 0) (ne_eqb word w (λ is. is_not (sym is))) in
+    omega (arith, more) in
     change_one values (λ count. count + 1) old new word here others
 
 -- some things more
@@ -29,7 +31,8 @@ with_all_at values place [] old new are =
 with_all_at values place (x ∷ xs) old new are =
     let rest : ℕ → ℕ = λ w. old w + count_at place xs w in
     ap (with_one (place x)) (with_all_at values place xs old rest (λ w. refl)) ∙
-    with_one_at values (place x) rest new (λ w. omega (arith, are w, sum_by-cons (λ y. cond (is_word w (place y)) 1 0) x xs))
+    with_one_at values (place x) rest new
+    (λ w. omega (arith, are w, sum_by-cons (λ y. cond (is_word w (place y)) 1 0) x xs))
 
 -- one place more at the end
 pub with_last_at : {X : Type 0} (values : Values) (place : X → Option ℕ) (xs : List X) (x : X) →

@@ -58,19 +58,26 @@ none_drains h (s ∷ ss) is drained = absurd (cc)
 
 stands-kept : (number : ℕ) (under : Option ℕ) → IsKeptByCommit (Stands number under)
 stands-kept number under = record {
-  empties = λ h s retired stands. record { cycle = stands.cycle; queue = stands.queue; costs = stands.costs; ends = stands.ends };
+  empties = λ h s retired stands. record {
+    cycle = stands.cycle;
+    queue = stands.queue;
+    costs = stands.costs;
+    ends = stands.ends;
+  };
   retires = λ h e es s message stands split known faultless. record {
     cycle = stands.cycle;
     queue = queue-kept.phases.commit.retires h e es s message stands.queue split known faultless;
     costs = stands.costs;
-    ends = ap (λ drains. end_by drains h.port_free) (oldest_stays h.committed h.rob.retired message.store) ∙ stands.ends;
+    ends = ap (λ drains. end_by drains h.port_free) (oldest_stays h.committed h.rob.retired message.store)
+        ∙ stands.ends;
   };
   writes_back = λ h stands drained. let rests = none_drains h h.committed refl drained in
       record {
         cycle = stands.cycle;
         queue = stands.queue;
         costs = stands.costs;
-        ends = ap (λ drains. end_by drains (with_write_back h).port_free) rests ∙ sym (ap (λ drains. end_by drains h.port_free) rests) ∙ stands.ends;
+        ends = ap (λ drains. end_by drains (with_write_back h).port_free) rests
+            ∙ sym (ap (λ drains. end_by drains h.port_free) rests) ∙ stands.ends;
       };
 }
 
@@ -83,14 +90,17 @@ tail_rests (s ∷ ss) each = each.0.1
 -- once its access is over, no store drains
 rests : (ss : List Store) → IsQueue ss → is_oldest_draining (without_drained ss) ≡ false
 rests [] queue = refl
-rests (s ∷ ss) queue = by_test (λ l. is_oldest_draining l ≡ false) (is_draining s) ss (s ∷ ss) (λ over. tail_rests ss queue.1) (λ waits. waits)
+rests (s ∷ ss) queue = by_test (λ l. is_oldest_draining l ≡ false) (is_draining s) ss (s ∷ ss)
+    (λ over. tail_rests ss queue.1) (λ waits. waits)
 
-now_draining : (state : StoreState) (access : StoreAccess) → state_to_drain state ≡ Some access → is_draining_state (draining state) ≡ true
+now_draining : (state : StoreState) (access : StoreAccess) → state_to_drain state ≡ Some access →
+    is_draining_state (draining state) ≡ true
 now_draining Waiting access is = absurd (cc)
 now_draining Faulted access is = absurd (cc)
 now_draining (Filled written phase) access is = refl
 
-now_drains : (ss : List Store) (access : StoreAccess) → oldest_to_drain ss ≡ Some access → is_oldest_draining (with_oldest_draining ss) ≡ true
+now_drains : (ss : List Store) (access : StoreAccess) → oldest_to_drain ss ≡ Some access →
+    is_oldest_draining (with_oldest_draining ss) ≡ true
 now_drains [] access is = absurd (cc)
 now_drains (s ∷ ss) access is = now_draining s.state access is
 
@@ -112,11 +122,13 @@ module _ (number : ℕ) (under : Option ℕ) (h : Hardware) (stands : Stands num
 
   new_end : (cost : ℕ) → h.port_free ≤ h.cycle → 1 ≤ cost → begun number under (Some (h.cycle + cost)) ≡ Some cost
   new_end cost idle some =
-      let other : ends_at (h.cycle + cost) under ≡ false = ap (ends_at (h.cycle + cost)) (sym stands.ends) ∙ other_end (h.cycle + cost) (is_oldest_draining h.committed) (omega (arith, idle, some)) in
+      let other : ends_at (h.cycle + cost) under ≡ false = ap (ends_at (h.cycle + cost)) (sym stands.ends)
+      ∙ other_end (h.cycle + cost) (is_oldest_draining h.committed) (omega (arith, idle, some)) in
       rw other (ap Some (omega (arith, stands.cycle)))
 
   starts : (found : Option StoreAccess) → oldest_to_drain (without_drained h.committed) ≡ found → h.port_free ≤ h.cycle
-      → Begins number under (option_map (λ (access : StoreAccess). access_cost h.cache access.address) found) (start_drain found (end_drain h))
+      → Begins number under (option_map (λ (access : StoreAccess). access_cost h.cache access.address) found)
+      (start_drain found (end_drain h))
   starts None is idle =
       let none = rests h.committed stands.queue in
       record {
@@ -135,7 +147,8 @@ module _ (number : ℕ) (under : Option ℕ) (h : Hardware) (stands : Stands num
       }
 
   drains_by_port : (idle : Bool) → nat_le h.port_free h.cycle ≡ idle → Begins number under (drain_cost h) (drain h)
-  drains_by_port true is = rw is (starts (oldest_to_drain (without_drained h.committed)) refl (leb-true h.port_free h.cycle is))
+  drains_by_port true is =
+      rw is (starts (oldest_to_drain (without_drained h.committed)) refl (leb-true h.port_free h.cycle is))
   drains_by_port false is =
       let busy = leb-false h.port_free h.cycle is in
       rw is
@@ -177,8 +190,16 @@ module _ (number : ℕ) (under : Option ℕ) where
 
   stays_at_broadcast : IsKeptByBroadcast (Stays number under)
   stays_at_broadcast = record {
-    broadcasts = λ h older younger e message stays split gives. record { cycle = stays.cycle; later = stays.later; ends = stays.ends };
-    mends = λ h older younger e next stays split. record { cycle = stays.cycle; later = stays.later; ends = stays.ends };
+    broadcasts = λ h older younger e message stays split gives. record {
+      cycle = stays.cycle;
+      later = stays.later;
+      ends = stays.ends;
+    };
+    mends = λ h older younger e next stays split. record {
+      cycle = stays.cycle;
+      later = stays.later;
+      ends = stays.ends;
+    };
   }
 
   stays_at_dispatch : IsKeptByDispatch (Stays number under)
@@ -189,7 +210,8 @@ module _ (number : ℕ) (under : Option ℕ) where
       }
 
 -- ---- the whole cycle
-pub begun_in_cycle : {lines : Lines} {old new : Hardware} {report : Report} → Reachable old → IsCycle any_prediction lines old report new
+pub begun_in_cycle : {lines : Lines} {old new : Hardware} {report : Report} → Reachable old →
+    IsCycle any_prediction lines old report new
     → begun old.cycle (drain_end old) (drain_end new) ≡ drain_cost (commit_with set.contains lines old).hardware
 begun_in_cycle {lines} {old} {new} reached cycle =
     let whole = sound reached in
@@ -204,7 +226,9 @@ begun_in_cycle {lines} {old} {new} reached cycle =
     let begins = drains_by_port old.cycle (drain_end old) h stands (nat_le h.port_free h.cycle) refl in
     let under = drain_end (drain h) in
     let first : Stays old.cycle under (drain h) = record { cycle = begins.cycle; later = begins.later; ends = refl } in
-    let stays = dispatch-keeps (stays_at_dispatch old.cycle under) _ (broadcast-keeps (stays_at_broadcast old.cycle under) _ (issue-keeps (Stays old.cycle under) (stays_at_issue old.cycle under) _ first)) in
+    let stays = dispatch-keeps (stays_at_dispatch old.cycle under) _
+    (broadcast-keeps (stays_at_broadcast old.cycle under) _
+    (issue-keeps (Stays old.cycle under) (stays_at_issue old.cycle under) _ first)) in
     let later : drain_end new ≡ under =
     ap drain_end cycle.others_stay ∙ ap (λ d. drain_end d.hardware) cycle.executes
     ∙ ap (λ c. drain_end (execute c.hardware).hardware) cycle.commits ∙ stays.ends in

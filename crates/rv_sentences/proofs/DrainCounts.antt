@@ -11,7 +11,8 @@ use Rattle.rv_sentences.specs.Drain.{drain_in, drains_by, drains_of}
 use Rattle.rv_hardware.specs.History.{History, Moment, ended, cycled}
 
 -- the drains of one cycle more
-pub drains_of-push : {arrivals : List Arrival} {old now : GuidedHardware} {moments : List Moment} (moment : Moment) → History arrivals old moments now
+pub drains_of-push : {arrivals : List Arrival} {old now : GuidedHardware} {moments : List Moment} (moment : Moment) →
+    History arrivals old moments now
     → drains_of arrivals old.hardware (moments ++ moment ∷ [])
     ≡ drains_of arrivals old.hardware moments ++ option_to_list (drain_in arrivals now.hardware)
 drains_of-push moment ended = append-nil _
@@ -20,7 +21,8 @@ drains_of-push {arrivals = arrivals} {old = old} moment (cycled {moment = first}
     sym (append_assoc (option_to_list (drain_in arrivals old.hardware)) _ _)
 
 -- some drains and others
-pub drains_by-append : (hit : ℕ) (some more : List ℕ) → drains_by hit (some ++ more) ≡ both (drains_by hit some) (drains_by hit more)
+pub drains_by-append : (hit : ℕ) (some more : List ℕ) → drains_by hit (some ++ more)
+    ≡ both (drains_by hit some) (drains_by hit more)
 drains_by-append hit some more = λ i. record {
   all = length-append some more i;
   quick = sum_by-append (λ (cost : ℕ). cond (cost == hit) 1 0) some more i;
@@ -31,7 +33,8 @@ length-option None = omega arith
 length-option (Some cost) = omega arith
 
 -- a cycle begins one at most
-pub drains_of-le : (arrivals : List Arrival) (h : Hardware) (moments : List Moment) → length (drains_of arrivals h moments) ≤ length moments
+pub drains_of-le : (arrivals : List Arrival) (h : Hardware) (moments : List Moment) →
+    length (drains_of arrivals h moments) ≤ length moments
 drains_of-le arrivals h [] = omega arith
 drains_of-le arrivals h (moment ∷ moments) =
     omega (

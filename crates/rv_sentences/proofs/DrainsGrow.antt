@@ -20,7 +20,8 @@ waiting_from-push : {arrivals : List Arrival} {old now : GuidedHardware} {moment
     (waiting_in now.hardware moment (waiting_from arrivals waiting old.hardware moments))
 waiting_from-push waiting moment ended = refl
 waiting_from-push {arrivals = arrivals} {old = old} waiting moment (cycled {moment = first} cycle rest) =
-    waiting_from-push (still_waiting (drain_in arrivals old.hardware) (waiting_in old.hardware first waiting)) moment rest
+    waiting_from-push (still_waiting (drain_in arrivals old.hardware) (waiting_in old.hardware first waiting)) moment
+    rest
 
 drained_from-push : {arrivals : List Arrival} {old now : GuidedHardware} {moments : List Moment} (waiting : List ℕ)
     (moment : Moment) → History arrivals old moments now
@@ -31,7 +32,8 @@ drained_from-push : {arrivals : List Arrival} {old now : GuidedHardware} {moment
 drained_from-push waiting moment ended = refl
 drained_from-push {arrivals = arrivals} {old = old} waiting moment (cycled {moment = first} cycle rest) =
     ap (λ drains. oldest_drained (drain_in arrivals old.hardware) (waiting_in old.hardware first waiting) ∷ drains)
-    (drained_from-push (still_waiting (drain_in arrivals old.hardware) (waiting_in old.hardware first waiting)) moment rest)
+    (drained_from-push (still_waiting (drain_in arrivals old.hardware) (waiting_in old.hardware first waiting)) moment
+    rest)
 
 module _ {arrivals : List Arrival} {old now : GuidedHardware} {moments : List Moment} (moment : Moment)
     (passes : History arrivals old moments now) where
@@ -42,7 +44,8 @@ module _ {arrivals : List Arrival} {old now : GuidedHardware} {moments : List Mo
   drained_now = oldest_drained (drain_in arrivals now.hardware) waiting_now
 
   -- the stores that still wait for their drain, with one cycle more
-  pub waiting-push : still_waiting (drain_in arrivals now.hardware) waiting_now ≡ waiting_of arrivals old.hardware (moments ++ moment ∷ [])
+  pub waiting-push : still_waiting (drain_in arrivals now.hardware) waiting_now
+      ≡ waiting_of arrivals old.hardware (moments ++ moment ∷ [])
   waiting-push = sym (waiting_from-push [] moment passes)
 
   -- the drains of the stores in each word
@@ -61,7 +64,8 @@ length-drained_from : (arrivals : List Arrival) (waiting : List ℕ) (h : Hardwa
     length (drained_from arrivals waiting h moments) ≡ length moments
 length-drained_from arrivals waiting h [] = refl
 length-drained_from arrivals waiting h (moment ∷ moments) =
-    ap suc (length-drained_from arrivals (still_waiting (drain_in arrivals h) (waiting_in h moment waiting)) moment.after moments)
+    ap suc (length-drained_from arrivals
+    (still_waiting (drain_in arrivals h) (waiting_in h moment waiting)) moment.after moments)
 
 -- those of so many cycles can go on
 pub can_count_store : (values : Values) (costs : LoadCosts) (arrivals : List Arrival) (h : Hardware)

@@ -46,7 +46,8 @@ cause_counted cause interruptions little =
     ))
 
 -- the counts of few interrupts can go on by one
-pub lines_counted : (interruptions : List Interruption) → length interruptions + 1 < 2 ^ 64 → AreCountable (by_line interruptions)
+pub lines_counted : (interruptions : List Interruption) → length interruptions + 1 < 2 ^ 64 →
+    AreCountable (by_line interruptions)
 lines_counted interruptions little = record {
   software = cause_counted (interrupt_cause 3) interruptions little;
   timer = cause_counted (interrupt_cause 7) interruptions little;

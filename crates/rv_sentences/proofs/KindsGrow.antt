@@ -74,15 +74,18 @@ module _ (e : Exception) where
   unfolding begun
   kinds-push before [] = refl
   kinds-push before (f ∷ es) =
-      let rest = kinds-push (f ∷ before) es ∙ ap (λ (known : Bool). map (kind_with e) (kinds_after (f ∷ before) es) ++ begun known) (sym (swap_or (is_alike f e) (is_like e es) (is_like e before))) in
+      let rest = kinds-push (f ∷ before) es ∙ ap (λ (known : Bool). map (kind_with e) (kinds_after (f ∷ before) es)
+      ++ begun known) (sym (swap_or (is_alike f e) (is_like e es) (is_like e before))) in
       first-push f before (is_like f before) refl _ _ (series-push f es) _ _ _ rest
 
   -- an exception is of one of the kinds if it is like one of them
-  any_kind : (before es : List Exception) → (list_any (belongs e) (kinds_after before es) || is_like e before) ≡ (is_like e es || is_like e before)
+  any_kind : (before es : List Exception) → (list_any (belongs e) (kinds_after before es) || is_like e before)
+      ≡ (is_like e es || is_like e before)
   any_kind before [] = refl
   any_kind before (f ∷ es) = by_known (is_like f before) refl (is_alike f e) refl (any_kind (f ∷ before) es) where
     by_known : (known : Bool) → is_like f before ≡ known → (alike : Bool) → is_alike f e ≡ alike
-        → (list_any (belongs e) (kinds_after (f ∷ before) es) || (alike || is_like e before)) ≡ (is_like e es || (alike || is_like e before))
+        → (list_any (belongs e) (kinds_after (f ∷ before) es) || (alike || is_like e before))
+        ≡ (is_like e es || (alike || is_like e before))
         → (list_any (belongs e)
         (cond known (kinds_after (f ∷ before) es)
         (series_from f (filter (is_alike f) es) ∷ kinds_after (f ∷ before) es)) || is_like e before)
@@ -92,18 +95,23 @@ module _ (e : Exception) where
         (sym (is_like-alike f e before is) ∙ is_known)
         ∙ or_true (list_any (belongs e) (kinds_after (f ∷ before) es))
     by_known true is_known false is rest = rest
-    by_known false is_known true is rest = ap (λ (a : Bool). (a || list_any (belongs e) (kinds_after (f ∷ before) es)) || is_like e before) is
-    by_known false is_known false is rest = ap (λ (a : Bool). (a || list_any (belongs e) (kinds_after (f ∷ before) es)) || is_like e before) is ∙ rest
+    by_known false is_known true is rest =
+        ap (λ (a : Bool). (a || list_any (belongs e) (kinds_after (f ∷ before) es)) || is_like e before) is
+    by_known false is_known false is rest =
+        ap (λ (a : Bool). (a || list_any (belongs e) (kinds_after (f ∷ before) es)) || is_like e before) is ∙ rest
 
   -- the first eight kinds, where there are as many
-  full : (ks : List (Series Exception)) (known : Bool) → 8 ≤ length ks → kinds_with e (take 8 ks) ≡ take 8 (map (kind_with e) ks ++ begun known)
+  full : (ks : List (Series Exception)) (known : Bool) → 8 ≤ length ks →
+      kinds_with e (take 8 ks) ≡ take 8 (map (kind_with e) ks ++ begun known)
   full ks known many =
       let more = map (kind_with e) (take 8 ks) in
-      let test : nat_le 8 (length (take 8 ks)) ≡ true = le-leb 8 (length (take 8 ks)) (omega (arith, length-take-le 8 ks many)) in
+      let test : nat_le 8 (length (take 8 ks)) ≡ true =
+      le-leb 8 (length (take 8 ks)) (omega (arith, length-take-le 8 ks many)) in
       let len : length (map (kind_with e) ks) ≡ length ks = simp length-map in
       ap (λ (b : Bool). cond (list_any (belongs e) (take 8 ks) || b) more (more ++ series_from e [] ∷ [])) test ∙
       ap (λ (b : Bool). cond b more (more ++ series_from e [] ∷ [])) (or_true (list_any (belongs e) (take 8 ks))) ∙
-      sym (take-map (kind_with e) 8 ks) ∙ sym (take-append-le 8 (map (kind_with e) ks) (begun known) (omega (arith, len, many)))
+      sym (take-map (kind_with e) 8 ks)
+      ∙ sym (take-append-le 8 (map (kind_with e) ks) (begun known) (omega (arith, len, many)))
 
   -- and where there are fewer
   few : (ks : List (Series Exception)) (known : Bool) → list_any (belongs e) ks ≡ known → length ks < 8 →
@@ -120,7 +128,8 @@ module _ (e : Exception) where
       let test : nat_le 8 (length ks) ≡ false = lt-leb 8 (length ks) (omega (arith, little)) in
       ap (λ (b : Bool). cond (b || nat_le 8 (length ks)) more (more ++ series_from e [] ∷ [])) is ∙
       ap (λ (b : Bool). cond b more (more ++ series_from e [] ∷ [])) test ∙
-      sym (take_all 8 (more ++ series_from e [] ∷ []) (omega (arith, length-append more (series_from e [] ∷ []), len, little)))
+      sym (take_all 8 (more ++ series_from e [] ∷ [])
+      (omega (arith, length-append more (series_from e [] ∷ []), len, little)))
 
   bounded : (ks : List (Series Exception)) (known : Bool) → list_any (belongs e) ks ≡ known →
       kinds_with e (take 8 ks) ≡ take 8 (map (kind_with e) ks ++ begun known)
@@ -131,7 +140,8 @@ module _ (e : Exception) where
   -- what is kept, with one exception more
   pub kept-push : (es : List Exception) → kept_with e (kept_of es) ≡ kept_of (es ++ e ∷ [])
   kept-push es =
-      let known : list_any (belongs e) (kinds_after [] es) ≡ (is_like e es || false) = sym (or_false _) ∙ any_kind [] es in
+      let known : list_any (belongs e) (kinds_after [] es) ≡ (is_like e es || false) =
+      sym (or_false _) ∙ any_kind [] es in
       let kinds = bounded (kinds_after [] es) (is_like e es || false) known ∙ ap (take 8) (sym (kinds-push [] es)) in
       let all = sym (series_of-push es e) in
       λ i. record { all = all i; kinds = kinds i }
@@ -145,12 +155,14 @@ kind_within bound before (f ∷ es) k d little below = by_known (is_like f befor
       by_known : (known : Bool) (k : ℕ) →
           ((j : ℕ) → j < length (kinds_after (f ∷ before) es) →
           (slice_index_or (kinds_after (f ∷ before) es) j d).count ≤ bound)
-          → k < length (cond known (kinds_after (f ∷ before) es) (series_from f (filter (is_alike f) es) ∷ kinds_after (f ∷ before) es))
+          → k < length (cond known (kinds_after (f ∷ before) es) (series_from f (filter (is_alike f) es)
+          ∷ kinds_after (f ∷ before) es))
           → (slice_index_or
           (cond known (kinds_after (f ∷ before) es)
           (series_from f (filter (is_alike f) es) ∷ kinds_after (f ∷ before) es)) k d).count ≤ bound
       by_known true k rest below = rest k below
-      by_known false zero rest below = omega (arith, length-filter (is_alike f) es, count_by-le-length (is_alike f) es, little)
+      by_known false zero rest below =
+          omega (arith, length-filter (is_alike f) es, count_by-le-length (is_alike f) es, little)
       by_known false (suc k) rest below = rest k (omega (arith, below))
 
 -- what is kept of some exceptions can be counted on

@@ -36,17 +36,22 @@ with_stores_of values [] old = ap (λ stores. notes_of values (last_store_to sto
 with_stores_of values (store ∷ new) old =
     let own = store_to-own store (word_of store.address) refl in
     let here : last_store_to (old ++ store ∷ []) (word_of store.address) ≡ Some store.pc =
-    last_store_to-push old store (word_of store.address) ∙ ap (λ last. option_or last (last_store_to old (word_of store.address))) own in
+    last_store_to-push old store (word_of store.address)
+    ∙ ap (λ last. option_or last (last_store_to old (word_of store.address))) own in
     let others : (w : ℕ) → (w ≡ word_of store.address → ⊥) → last_store_to old w ≡ last_store_to (old ++ store ∷ []) w =
-    λ w is_not. sym (last_store_to-push old store w ∙ ap (λ last. option_or last (last_store_to old w)) (store_to-other store w is_not)) in
+    λ w is_not. sym (last_store_to-push old store w ∙ ap (λ last. option_or last (last_store_to old w))
+    (store_to-other store w is_not)) in
     ap (with_stores new)
     (set_one values (last_store_to old) (last_store_to (old ++ store ∷ [])) (word_of store.address) (Some store.pc)
     (sym here) others) ∙
-    with_stores_of values new (old ++ store ∷ []) ∙ ap (λ stores. notes_of values (last_store_to stores)) (append_assoc old (store ∷ []) new)
+    with_stores_of values new (old ++ store ∷ []) ∙ ap (λ stores. notes_of values (last_store_to stores))
+    (append_assoc old (store ∷ []) new)
 
 -- the stores of one cycle more
-pub stores_of-push : {arrivals : List Arrival} {old now : GuidedHardware} {moments : List Moment} (moment : Moment) → History arrivals old moments now
-    → stores_of old.hardware (moments ++ moment ∷ []) ≡ stores_of old.hardware moments ++ stores_in now.hardware.registers moment.report.steps
+pub stores_of-push : {arrivals : List Arrival} {old now : GuidedHardware} {moments : List Moment} (moment : Moment) →
+    History arrivals old moments now
+    → stores_of old.hardware (moments ++ moment ∷ []) ≡ stores_of old.hardware moments
+    ++ stores_in now.hardware.registers moment.report.steps
 stores_of-push moment ended = append-nil _
 stores_of-push {old = old} moment (cycled {moment = first} cycle rest) =
     ap (λ stores. stores_in old.hardware.registers first.report.steps ++ stores) (stores_of-push moment rest)

@@ -32,7 +32,8 @@ one_more-counted false n m = omega arith
 counted-last : (test : Passage → Bool) (ps : List Passage) (p : Passage) (n : ℕ) →
     one_more (test p) n + count_by test ps ≡ n + count_by test (ps ++ p ∷ [])
 counted-last test ps p n =
-    one_more-counted (test p) n (count_by test ps) ∙ ap (λ m. n + m) (sym (sum_by_push (λ (q : Passage). cond (test q) 1 0) ps p))
+    one_more-counted (test p) n (count_by test ps)
+    ∙ ap (λ m. n + m) (sym (sum_by_push (λ (q : Passage). cond (test q) 1 0) ps p))
 
 -- where a count of what left the hardware is one of all that pass a test
 module _ (count : List Passage → ℕ) (test : Passage → Bool)
@@ -40,7 +41,8 @@ module _ (count : List Passage → ℕ) (test : Passage → Bool)
   counted_left-last : (ps : List Passage) (p : Passage) (n : ℕ) →
       one_more (test p) n + count (filter has_left ps) ≡ n + count (filter has_left (ps ++ p ∷ []))
   counted_left-last ps p n =
-      ap (λ m. one_more (test p) n + m) (same ps) ∙ counted-last test ps p n ∙ ap (λ m. n + m) (sym (same (ps ++ p ∷ [])))
+      ap (λ m. one_more (test p) n + m) (same ps) ∙ counted-last test ps p n
+      ∙ ap (λ m. n + m) (sym (same (ps ++ p ∷ [])))
 
 left-last : (ps : List Passage) (p : Passage) (n : ℕ) →
     one_more (has_left p) n + length (filter has_left ps) ≡ n + length (filter has_left (ps ++ p ∷ []))
@@ -131,7 +133,8 @@ can_add_fewer counts fewer more under can = record {
 }
 
 -- with one more by so many fewer
-module _ (costs : LoadCosts) (p : Passage) (counts : Counts) (fewer more : ℕ) (under : fewer + 1 ≤ more) (can : CanCount counts more) where
+module _ (costs : LoadCosts) (p : Passage) (counts : Counts) (fewer more : ℕ) (under : fewer + 1 ≤ more)
+    (can : CanCount counts more) where
   -- after one instruction there is room for the others
   pub can_add_others : CanCount (counts_with costs p counts) fewer
   can_add_others = record {
@@ -142,7 +145,12 @@ module _ (costs : LoadCosts) (p : Passage) (counts : Counts) (fewer more : ℕ) 
     loads = omega (arith, under, can.loads, one_more-within (is_some (retired_load_cost p)) counts.loads.all);
     quick = omega (arith, under, can.quick, one_more-within (is_hit costs (retired_load_cost p)) counts.loads.quick);
     branch_words = omega (arith, under, can.branch_words, sum_with_one (word_in Branch p) counts.branches);
-    mispredicted_words = omega (arith, under, can.mispredicted_words, sum_with_one (word_in Mispredicted p) counts.mispredicted);
+    mispredicted_words = omega (
+      arith,
+      under,
+      can.mispredicted_words,
+      sum_with_one (word_in Mispredicted p) counts.mispredicted,
+    );
     outcomes =
         let changed = with_change (outcomes_with costs p) counts.outcomes (word_of p.pc) in
         can_take_others costs p counts.outcomes changed (word_of p.pc) fewer more refl under can.outcomes;

@@ -34,26 +34,31 @@ note-each : {X : Type 0} (P : X → Type 0) (notes : Notes X) (word : ℕ) (belo
 note-each P notes word true is each = rw is tt
 note-each P notes word false is each = rw is (got-each P notes.words (word - notes.first) each)
 
-each-note : {X : Type 0} (P : X → Type 0) (notes : Notes X) (word : ℕ) → Each P notes.words → IfSome (note_at notes word) P
+each-note : {X : Type 0} (P : X → Type 0) (notes : Notes X) (word : ℕ) → Each P notes.words →
+    IfSome (note_at notes word) P
 each-note P notes word each = note-each P notes word (nat_lt word notes.first) refl each
 
-module _ {X : Type 0} (P Q : X → Type 0) (change : X → X) (stays : (x : X) → P x → Q x) (then : (x : X) → P x → Q (change x)) where
+module _ {X : Type 0} (P Q : X → Type 0) (change : X → X) (stays : (x : X) → P x → Q x) (then : (x : X) → P x →
+    Q (change x)) where
   each-set : (xs : List X) (i : ℕ) (y : X) → Q y → Each P xs → Each Q (slice_set xs i y)
   each-set [] i y now each = tt
   each-set (x ∷ xs) zero y now each = (now, each-by xs stays each.1)
   each-set (x ∷ xs) (suc i) y now each = (stays x each.0, each-set xs i y now each.1)
 
-  by_some : (notes : Notes X) (word : ℕ) (o : Option X) → IfSome o P → Each P notes.words → Each Q (changed change notes word o).words
+  by_some : (notes : Notes X) (word : ℕ) (o : Option X) → IfSome o P → Each P notes.words →
+      Each Q (changed change notes word o).words
   by_some notes word None has each = each-by notes.words stays each
   by_some notes word (Some x) has each = by_below (nat_lt word notes.first) where
-    by_below : (below : Bool) → Each Q (cond below notes (record notes { words = slice_set notes.words (word - notes.first) (change x) })).words
+    by_below : (below : Bool) →
+        Each Q (cond below notes (record notes { words = slice_set notes.words (word - notes.first) (change x) })).words
     by_below true = each-by notes.words stays each
     by_below false = each-set notes.words (word - notes.first) (change x) (then x has) each
 
   each-change : (notes : Notes X) (word : ℕ) → Each P notes.words → Each Q (with_change change notes word).words
   each-change notes word each = by_some notes word (note_at notes word) (each-note P notes word each) each
 
-each-of : {X : Type 0} (P : X → Type 0) (f : ℕ → X) → ((w : ℕ) → P (f w)) → (a n : ℕ) → Each P (map f (range_with_len a n))
+each-of : {X : Type 0} (P : X → Type 0) (f : ℕ → X) → ((w : ℕ) → P (f w)) → (a n : ℕ) →
+    Each P (map f (range_with_len a n))
 each-of P f all a zero = tt
 each-of P f all a (suc n) = (all a, each-of P f all (a + 1) n)
 
@@ -67,18 +72,26 @@ within-more most more o over is = record {
   write_backs = omega (arith, over, is.write_backs);
 }
 
-within-with : (costs : LoadCosts) (p : Passage) (most : ℕ) (o : Outcomes) → IsWithin most o → IsWithin (most + 1) (outcomes_with costs p o)
+within-with : (costs : LoadCosts) (p : Passage) (most : ℕ) (o : Outcomes) → IsWithin most o →
+    IsWithin (most + 1) (outcomes_with costs p o)
 within-with costs p most o is = record {
   hits = omega (arith, is.hits, one_more-within (is_hit costs (retired_load_cost p)) o.hits);
   forwarded = omega (arith, is.forwarded, one_more-within (is_forwarded costs (retired_load_cost p)) o.forwarded);
   misses = omega (arith, is.misses, one_more-within (is_miss costs (retired_load_cost p)) o.misses);
-  write_backs = omega (arith, is.write_backs, one_more-within (is_write_back costs (retired_load_cost p)) o.write_backs);
+  write_backs = omega (
+    arith,
+    is.write_backs,
+    one_more-within (is_write_back costs (retired_load_cost p)) o.write_backs,
+  );
 }
 
 -- one more can be counted
-pub can_count : (notes : Notes Outcomes) (word more : ℕ) → 1 ≤ more → CanTake notes more → IfSome (note_at notes word) CanCount
+pub can_count : (notes : Notes Outcomes) (word more : ℕ) → 1 ≤ more → CanTake notes more →
+    IfSome (note_at notes word) CanCount
 can_count notes word more some can =
-    each-note CanCount notes word (each-by notes.words (λ o is. within-more can.most (2 ^ 62) o (omega (arith, some, can.countable)) is) can.within)
+    each-note CanCount notes word
+    (each-by notes.words (λ o is. within-more can.most (2 ^ 62) o (omega (arith, some, can.countable)) is)
+    can.within)
 
 -- and so many fewer after it
 pub can_take_others : (costs : LoadCosts) (p : Passage) (old new : Notes Outcomes) (word fewer more : ℕ) →
@@ -94,9 +107,11 @@ can_take_others costs p old new word fewer more new_is under can = record {
 
 -- room for more is room for fewer
 pub can_take_fewer : (notes : Notes Outcomes) (fewer more : ℕ) → fewer ≤ more → CanTake notes more → CanTake notes fewer
-can_take_fewer notes fewer more under can = record { most = can.most; within = can.within; countable = omega (arith, can.countable, under) }
+can_take_fewer notes fewer more under can =
+    record { most = can.most; within = can.within; countable = omega (arith, can.countable, under) }
 
-counts_within : (costs : LoadCosts) (ps : List Passage) (more : ℕ) → length ps ≤ more → IsWithin more (outcomes_of costs ps)
+counts_within : (costs : LoadCosts) (ps : List Passage) (more : ℕ) → length ps ≤ more →
+    IsWithin more (outcomes_of costs ps)
 counts_within costs ps more few = record {
   hits = omega (arith, few, count_by-le-length (λ p. is_hit costs (retired_load_cost p)) ps);
   forwarded = omega (arith, few, count_by-le-length (λ p. is_forwarded costs (retired_load_cost p)) ps);
@@ -152,7 +167,8 @@ no_load costs p notes word cost cost_is is =
       misses = one_more (is_miss costs cost) o.misses;
       write_backs = one_more (is_write_back costs cost) o.write_backs;
     }) none in
-    sym (changed_same (outcomes_with costs p) notes word (nat_lt word notes.first) refl (slice_get notes.words (word - notes.first)) refl same)
+    sym (changed_same (outcomes_with costs p) notes word (nat_lt word notes.first) refl
+    (slice_get notes.words (word - notes.first)) refl same)
 
 -- the last of some instructions comes first
 pub passages-last : (costs : LoadCosts) (ps : List Passage) (p : Passage) (notes : Notes Outcomes) →
@@ -160,28 +176,37 @@ pub passages-last : (costs : LoadCosts) (ps : List Passage) (p : Passage) (notes
     ≡ with_passages costs ps (with_change (outcomes_with costs p) notes (word_of p.pc))
 passages-last costs [] p notes = refl
 passages-last costs (q ∷ ps) p notes =
-    ap (λ (before : Notes Outcomes). with_change (outcomes_with costs q) before (word_of q.pc)) (passages-last costs ps p notes)
+    ap (λ (before : Notes Outcomes). with_change (outcomes_with costs q) before (word_of q.pc))
+    (passages-last costs ps p notes)
 
 -- ---- what is kept is what became of the instructions
 
-outcomes-cons : (costs : LoadCosts) (p : Passage) (ps : List Passage) → outcomes_with costs p (outcomes_of costs ps) ≡ outcomes_of costs (p ∷ ps)
+outcomes-cons : (costs : LoadCosts) (p : Passage) (ps : List Passage) → outcomes_with costs p (outcomes_of costs ps)
+    ≡ outcomes_of costs (p ∷ ps)
 outcomes-cons costs p ps =
     let hits = count_by-cons (λ q. is_hit costs (retired_load_cost q)) p ps in
     let forwarded = count_by-cons (λ q. is_forwarded costs (retired_load_cost q)) p ps in
     let misses = count_by-cons (λ q. is_miss costs (retired_load_cost q)) p ps in
     let write_backs = count_by-cons (λ q. is_write_back costs (retired_load_cost q)) p ps in
-    λ i. record { hits = sym hits i; forwarded = sym forwarded i; misses = sym misses i; write_backs = sym write_backs i }
+    λ i. record {
+      hits = sym hits i;
+      forwarded = sym forwarded i;
+      misses = sym misses i;
+      write_backs = sym write_backs i;
+    }
 
 outcomes-here : (costs : LoadCosts) (p : Passage) (ps : List Passage) →
     outcomes_with costs p (outcomes_at costs ps (word_of p.pc)) ≡ outcomes_at costs (p ∷ ps) (word_of p.pc)
 outcomes-here costs p ps =
-    let here : filter (is_in (word_of p.pc)) (p ∷ ps) ≡ p ∷ filter (is_in (word_of p.pc)) ps = rw (eq-eqb (word_of p.pc) (word_of p.pc) refl) refl in
+    let here : filter (is_in (word_of p.pc)) (p ∷ ps) ≡ p ∷ filter (is_in (word_of p.pc)) ps =
+    rw (eq-eqb (word_of p.pc) (word_of p.pc) refl) refl in
     outcomes-cons costs p (filter (is_in (word_of p.pc)) ps) ∙ sym (ap (outcomes_of costs) here)
 
 outcomes-other : (costs : LoadCosts) (p : Passage) (ps : List Passage) (word : ℕ) → (word ≡ word_of p.pc → ⊥) →
     outcomes_at costs ps word ≡ outcomes_at costs (p ∷ ps) word
 outcomes-other costs p ps word other =
-    let past : filter (is_in word) (p ∷ ps) ≡ filter (is_in word) ps = rw (ne_eqb (word_of p.pc) word (λ is. other (sym is))) refl in
+    let past : filter (is_in word) (p ∷ ps) ≡ filter (is_in word) ps =
+    rw (ne_eqb (word_of p.pc) word (λ is. other (sym is))) refl in
     sym (ap (outcomes_of costs) past)
 
 -- some instructions before others
@@ -189,6 +214,8 @@ pub outcomes-left : (values : Values) (costs : LoadCosts) (ps left : List Passag
     with_passages costs ps (notes_of values (outcomes_at costs left)) ≡ notes_of values (outcomes_at costs (ps ++ left))
 outcomes-left values costs [] left = refl
 outcomes-left values costs (p ∷ ps) left =
-    ap (λ (notes : Notes Outcomes). with_change (outcomes_with costs p) notes (word_of p.pc)) (outcomes-left values costs ps left) ∙
-    change_one values (outcomes_with costs p) (outcomes_at costs (ps ++ left)) (outcomes_at costs (p ∷ ps ++ left)) (word_of p.pc)
+    ap (λ (notes : Notes Outcomes). with_change (outcomes_with costs p) notes (word_of p.pc))
+    (outcomes-left values costs ps left) ∙
+    change_one values (outcomes_with costs p) (outcomes_at costs (ps ++ left))
+    (outcomes_at costs (p ∷ ps ++ left)) (word_of p.pc)
     (outcomes-here costs p (ps ++ left)) (outcomes-other costs p (ps ++ left))

@@ -15,6 +15,8 @@ raised_from-push {old = old} raised moment (cycled {moment = first} cycle rest) 
     raised_from-push (raised_with old.hardware.cycle first.after.lines raised) moment rest
 
 -- since when the lines are high, with one cycle more
-pub raised-push : {arrivals : List Arrival} {old now : GuidedHardware} {moments : List Moment} (moment : Moment) → History arrivals old moments now
-    → raised_of old.hardware (moments ++ moment ∷ []) ≡ raised_with now.hardware.cycle moment.after.lines (raised_of old.hardware moments)
+pub raised-push : {arrivals : List Arrival} {old now : GuidedHardware} {moments : List Moment} (moment : Moment) →
+    History arrivals old moments now
+    → raised_of old.hardware (moments ++ moment ∷ []) ≡ raised_with now.hardware.cycle moment.after.lines
+    (raised_of old.hardware moments)
 raised-push moment passes = raised_from-push none_raised moment passes

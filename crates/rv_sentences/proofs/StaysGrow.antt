@@ -56,17 +56,26 @@ one_more_stay o t = omega (arith, counted_once o t, one_at_most (is_some o))
 pub stay_counted : (o : Option Stay) (old new : Stays) → new ≡ with_stay o old → all_stays new ≤ all_stays old + 1
 stay_counted o old new is = omega (arith, ap (λ (s : Stays). all_stays s) is, one_more_stay o old)
 
-all_counted : (os : List (Option Stay)) (t : Stays) → all_stays (with_stays os t) ≡ all_stays t + count_by (λ (o : Option Stay). is_some o) os
+all_counted : (os : List (Option Stay)) (t : Stays) → all_stays (with_stays os t) ≡ all_stays t
+    + count_by (λ (o : Option Stay). is_some o) os
 all_counted [] t = omega arith
-all_counted (o ∷ os) t = omega (arith, all_counted os (with_stay o t), counted_once o t, sum_by-cons (λ (p : Option Stay). cond (is_some p) 1 0) o os)
+all_counted (o ∷ os) t =
+    omega (
+      arith,
+      all_counted os (with_stay o t),
+      counted_once o t,
+      sum_by-cons (λ (p : Option Stay). cond (is_some p) 1 0) o os,
+    )
 
 -- ---- some cycles and more
-with_stays-append : (some more : List (Option Stay)) (t : Stays) → with_stays (some ++ more) t ≡ with_stays more (with_stays some t)
+with_stays-append : (some more : List (Option Stay)) (t : Stays) → with_stays (some ++ more) t
+    ≡ with_stays more (with_stays some t)
 with_stays-append [] more t = refl
 with_stays-append (o ∷ some) more t = with_stays-append some more (with_stay o t)
 
 -- one more cycle, with these passages at its end
-module _ {arrivals : List Arrival} {old now : GuidedHardware} {moments : List Moment} (moment : Moment) (passes : History arrivals old moments now)
+module _ {arrivals : List Arrival} {old now : GuidedHardware} {moments : List Moment} (moment : Moment)
+    (passes : History arrivals old moments now)
     {rows : List Passage} (rows_are : rows ≡ (last_cycle still_open passes moment).passages.rows) where
   abbrev more_stays : List (Option Stay)
   more_stays = stays_among now.hardware.cycle (is_free now.hardware.cycle (at_kind Mem moment.after.units)) true rows
@@ -84,9 +93,11 @@ module _ {arrivals : List Arrival} {old now : GuidedHardware} {moments : List Mo
   pub stays-push : with_stays more_stays (with_stays (stays_of old.hardware moments) no_stays)
       ≡ with_stays (stays_of old.hardware (moments ++ moment ∷ [])) no_stays
   stays-push =
-      sym (ap (λ os. with_stays os no_stays) stays_of-push ∙ with_stays-append (stays_of old.hardware moments) more_stays no_stays)
+      sym (ap (λ os. with_stays os no_stays) stays_of-push
+      ∙ with_stays-append (stays_of old.hardware moments) more_stays no_stays)
 
-  awaited_of-push : awaited_of old.hardware (moments ++ moment ∷ []) ≡ awaited_of old.hardware moments ++ oldest_awaited more_stays ∷ []
+  awaited_of-push : awaited_of old.hardware (moments ++ moment ∷ []) ≡ awaited_of old.hardware moments
+      ++ oldest_awaited more_stays ∷ []
   awaited_of-push =
       ap (map awaited_in) (walk-push still_open passes moment)
       ∙ map-append awaited_in (walk still_open old.hardware moments) (last_cycle still_open passes moment ∷ [])
@@ -96,7 +107,8 @@ module _ {arrivals : List Arrival} {old now : GuidedHardware} {moments : List Mo
       ∷ []) (sym rows_are)
 
   -- the words that are awaited, with one cycle more
-  pub awaited-push : (values : Values) → with_one (oldest_awaited more_stays) (notes_of values (count_at itself (awaited_of old.hardware moments)))
+  pub awaited-push : (values : Values) →
+      with_one (oldest_awaited more_stays) (notes_of values (count_at itself (awaited_of old.hardware moments)))
       ≡ notes_of values (count_at itself (awaited_of old.hardware (moments ++ moment ∷ [])))
   awaited-push values =
       with_last_at values itself (awaited_of old.hardware moments) (oldest_awaited more_stays)
@@ -121,7 +133,11 @@ few_stays (o ∷ os) t = omega (arith, few_stays os (with_stay o t), one_more_st
 pub few_more_stays : (cycle : ℕ) (has_unit has_addresses : Bool) (rows : List Passage) (t : Stays) →
     all_stays (with_stays (stays_among cycle has_unit has_addresses rows) t) ≤ all_stays t + length rows
 few_more_stays cycle has_unit has_addresses rows t =
-    omega (arith, few_stays (stays_among cycle has_unit has_addresses rows) t, length-stays_among cycle has_unit has_addresses rows)
+    omega (
+      arith,
+      few_stays (stays_among cycle has_unit has_addresses rows) t,
+      length-stays_among cycle has_unit has_addresses rows,
+    )
 
 -- ---- each instruction stays in each cycle for one reason
 one_reason : (staying : Bool) (s : Stay) → is_some (cond staying (Some s) None) ≡ staying
@@ -133,7 +149,8 @@ staying_among : (cycle : ℕ) (has_unit has_addresses : Bool) (ps : List Passage
     ≡ count_by (is_staying cycle) ps
 staying_among cycle has_unit has_addresses [] = refl
 staying_among cycle has_unit has_addresses (p ∷ ps) =
-    let reason = ap {B = ℕ} (λ test. cond test 1 0) (one_reason (is_staying cycle p) (dispatched_stay cycle has_unit has_addresses p)) in
+    let reason = ap {B = ℕ} (λ test. cond test 1 0)
+    (one_reason (is_staying cycle p) (dispatched_stay cycle has_unit has_addresses p)) in
     omega (
       arith,
       sum_by-cons (λ (o : Option Stay). cond (is_some o) 1 0) (stay_in cycle has_unit has_addresses p)
@@ -143,7 +160,8 @@ staying_among cycle has_unit has_addresses (p ∷ ps) =
       staying_among cycle has_unit (has_addresses && not (lacks_address cycle p)) ps,
     )
 
-staying_of : (cycles : List FollowedCycle) → count_by (λ (o : Option Stay). is_some o) (flat_map stays_in cycles) ≡ staying_in cycles
+staying_of : (cycles : List FollowedCycle) →
+    count_by (λ (o : Option Stay). is_some o) (flat_map stays_in cycles) ≡ staying_in cycles
 staying_of [] = refl
 staying_of (cycle ∷ cycles) =
     let has_unit = is_free cycle.number (at_kind Mem cycle.after.units) in

@@ -11,7 +11,8 @@ use Rattle.rv_sentences.specs.WordNotes.{Notes, notes_of, with_change, with_note
 same_words : {X : Type 0} (f g : ℕ → X) (a n : ℕ) → ((w : ℕ) → a ≤ w → w < a + n → f w ≡ g w) →
     map f (range_with_len a n) ≡ map g (range_with_len a n)
 same_words f g a zero all = refl
-same_words f g a (suc n) all = λ i. all a (omega arith) (omega arith) i ∷ same_words f g (a + 1) n (λ w low high. all w (omega arith) (omega arith)) i
+same_words f g a (suc n) all = λ i. all a (omega arith) (omega arith) i
+    ∷ same_words f g (a + 1) n (λ w low high. all w (omega arith) (omega arith)) i
 
 word_set : {X : Type 0} (f g : ℕ → X) (a n i : ℕ) → i < n → ((w : ℕ) → (w ≡ a + i → ⊥) → f w ≡ g w) →
     slice_set (map f (range_with_len a n)) i (g (a + i)) ≡ map g (range_with_len a n)
@@ -21,7 +22,8 @@ word_set f g a (suc n) zero within others =
     λ i. g (here i) ∷ same_words f g (a + 1) n (λ w low high. others w (λ is. omega arith)) i
 word_set f g a (suc n) (suc i) within others =
     let place : a + suc i ≡ (a + 1) + i = omega arith in
-    let rest = ap (λ (w : ℕ). slice_set (map f (range_with_len (a + 1) n)) i (g w)) place ∙ word_set f g (a + 1) n i (omega arith) (λ w is_not. others w (λ is. is_not (omega arith))) in
+    let rest = ap (λ (w : ℕ). slice_set (map f (range_with_len (a + 1) n)) i (g w)) place
+    ∙ word_set f g (a + 1) n i (omega arith) (λ w is_not. others w (λ is. is_not (omega arith))) in
     λ j. others a (λ is. omega arith) j ∷ rest j
 
 word_got : {X : Type 0} (f : ℕ → X) (a n i : ℕ) → i < n → slice_get (map f (range_with_len a n)) i ≡ Some (f (a + i))
@@ -34,7 +36,8 @@ no_word f a zero i past = refl
 no_word f a (suc n) zero past = absurd (omega arith)
 no_word f a (suc n) (suc i) past = no_word f (a + 1) n i (omega arith)
 
-set_beyond : {X : Type 0} (f : ℕ → X) (a n i : ℕ) (x : X) → n ≤ i → slice_set (map f (range_with_len a n)) i x ≡ map f (range_with_len a n)
+set_beyond : {X : Type 0} (f : ℕ → X) (a n i : ℕ) (x : X) → n ≤ i → slice_set (map f (range_with_len a n)) i x
+    ≡ map f (range_with_len a n)
 set_beyond f a zero i x past = refl
 set_beyond f a (suc n) zero x past = absurd (omega arith)
 set_beyond f a (suc n) (suc i) x past = ap (λ rest. f a ∷ rest) (set_beyond f (a + 1) n i x (omega arith))
@@ -46,11 +49,14 @@ module _ {X : Type 0} (change : X → X) (f g : ℕ → X) (word a n : ℕ) (her
     (others : (w : ℕ) → (w ≡ word → ⊥) → f w ≡ g w) where
   all_same : ((w : ℕ) → a ≤ w → w < a + n → w ≡ word → ⊥) → notes_from f a n ≡ notes_from g a n
   unfolding notes_from
-  all_same outside = ap (λ words. record { first = a; words = words }) (same_words f g a n (λ w low high. others w (outside w low high)))
+  all_same outside = ap (λ words. record { first = a; words = words })
+      (same_words f g a n (λ w low high. others w (outside w low high)))
 
-  change_within : (i : ℕ) → i < n → word ≡ a + i → slice_set (map f (range_with_len a n)) i (change (f (a + i))) ≡ map g (range_with_len a n)
+  change_within : (i : ℕ) → i < n → word ≡ a + i → slice_set (map f (range_with_len a n)) i (change (f (a + i)))
+      ≡ map g (range_with_len a n)
   change_within i within is =
-      ap (λ note. slice_set (map f (range_with_len a n)) i note) (ap (λ (w : ℕ). change (f w)) (sym is) ∙ here ∙ ap g is) ∙
+      ap (λ note. slice_set (map f (range_with_len a n)) i note)
+      (ap (λ (w : ℕ). change (f w)) (sym is) ∙ here ∙ ap g is) ∙
       word_set f g a n i within (λ w is_not. others w (λ at. is_not (at ∙ is)))
 
   change_above : (inside : Bool) → nat_lt word a ≡ false → nat_lt (word - a) n ≡ inside →
@@ -73,12 +79,14 @@ module _ {X : Type 0} (change : X → X) (f g : ℕ → X) (word a n : ℕ) (her
       rw below (all_same (λ w from to is. omega arith))
   change_of false above = change_above (nat_lt (word - a) n) above refl
 
-  set_within : (i : ℕ) → i < n → word ≡ a + i → slice_set (map f (range_with_len a n)) i (g word) ≡ map g (range_with_len a n)
+  set_within : (i : ℕ) → i < n → word ≡ a + i → slice_set (map f (range_with_len a n)) i (g word)
+      ≡ map g (range_with_len a n)
   set_within i within is =
       ap (λ (w : ℕ). slice_set (map f (range_with_len a n)) i (g w)) is ∙
       word_set f g a n i within (λ w is_not. others w (λ at. is_not (at ∙ is)))
 
-  set_above : (inside : Bool) → nat_lt word a ≡ false → nat_lt (word - a) n ≡ inside → with_note (notes_from f a n) word (g word) ≡ notes_from g a n
+  set_above : (inside : Bool) → nat_lt word a ≡ false → nat_lt (word - a) n ≡ inside →
+      with_note (notes_from f a n) word (g word) ≡ notes_from g a n
   unfolding notes_from
   set_above true above within =
       let low = ltb-false word a above in
@@ -98,12 +106,14 @@ module _ {X : Type 0} (change : X → X) (f g : ℕ → X) (word a n : ℕ) (her
   set_of false above = set_above (nat_lt (word - a) n) above refl
 
 -- another note of one word
-pub set_one : {X : Type 0} (values : Values) (f g : ℕ → X) (word : ℕ) (note : X) → note ≡ g word → ((w : ℕ) → (w ≡ word → ⊥) → f w ≡ g w)
+pub set_one : {X : Type 0} (values : Values) (f g : ℕ → X) (word : ℕ) (note : X) → note ≡ g word →
+    ((w : ℕ) → (w ≡ word → ⊥) → f w ≡ g w)
     → with_note (notes_of values f) word note ≡ notes_of values g
 unfolding notes_from
 set_one values f g word note is others =
     ap (with_note (notes_of values f) word) is ∙
-    set_of (λ _. g word) f g word (word_of values.ram_base) (word_of values.ram_size) refl others (nat_lt word (word_of values.ram_base)) refl
+    set_of (λ _. g word) f g word (word_of values.ram_base) (word_of values.ram_size) refl others
+    (nat_lt word (word_of values.ram_base)) refl
 
 -- a change at one word
 pub change_one : {X : Type 0} (values : Values) (change : X → X) (f g : ℕ → X) (word : ℕ) → change (f word) ≡ g word →
@@ -111,7 +121,8 @@ pub change_one : {X : Type 0} (values : Values) (change : X → X) (f g : ℕ �
     → with_change change (notes_of values f) word ≡ notes_of values g
 unfolding notes_from
 change_one values change f g word here others =
-    change_of change f g word (word_of values.ram_base) (word_of values.ram_size) here others (nat_lt word (word_of values.ram_base)) refl
+    change_of change f g word (word_of values.ram_base) (word_of values.ram_size) here others
+    (nat_lt word (word_of values.ram_base)) refl
 
 -- the same is kept of each word
 all_alike : {X : Type 0} (note : X) (a n : ℕ) → replicate n note ≡ map (λ (w : ℕ). note) (range_with_len a n)

@@ -47,7 +47,8 @@ pub squashed_left : (ps : List Passage) →
 squashed_left ps = count-among has_left (λ p. is_squash p.ending) unsquashed ps
 
 -- so did the branches and jumps that retired
-pub branches_left : (ps : List Passage) → count_by is_retired_branch (filter has_left ps) ≡ count_by is_retired_branch ps
+pub branches_left : (ps : List Passage) → count_by is_retired_branch (filter has_left ps)
+    ≡ count_by is_retired_branch ps
 branches_left ps = count-among has_left is_retired_branch (λ p is. rw (unretired p is) refl) ps
 
 -- and those that were mispredicted
@@ -63,9 +64,11 @@ loads_left costs ps =
     λ i. record { all = sym all i; quick = sym quick i }
 
 -- some more left the hardware
-count-appended : (test : Passage → Bool) (new old : List Passage) → count_by test old + count_by test new ≡ count_by test (new ++ old)
+count-appended : (test : Passage → Bool) (new old : List Passage) → count_by test old + count_by test new
+    ≡ count_by test (new ++ old)
 count-appended test new old =
-    let apart : count_by test (new ++ old) ≡ count_by test new + count_by test old = sum_by-append (λ (p : Passage). cond (test p) 1 0) new old in
+    let apart : count_by test (new ++ old) ≡ count_by test new + count_by test old =
+    sum_by-append (λ (p : Passage). cond (test p) 1 0) new old in
     omega (arith, apart)
 
 -- what became of some and of others
@@ -92,8 +95,10 @@ loads-left costs rows old =
     ap (both (loads_of costs old)) (loads_left costs rows) ∙ (λ i. record { all = all i; quick = quick i })
 
 -- the words of RAM of those of a class
-words-left : (class : Class) (none : (p : Passage) → has_left p ≡ false → is_of class p ≡ false) (rows old : List Passage) (word : ℕ)
-    → count_at (word_in class) (filter has_left rows ++ old) word ≡ count_at (word_in class) old word + count_at (word_in class) rows word
+words-left : (class : Class) (none : (p : Passage) → has_left p ≡ false → is_of class p ≡ false)
+    (rows old : List Passage) (word : ℕ)
+    → count_at (word_in class) (filter has_left rows ++ old) word ≡ count_at (word_in class) old word
+    + count_at (word_in class) rows word
 words-left class none rows old word =
     let test : Passage → Bool = λ p. is_word word (word_in class p) in
     sym (count-appended test (filter has_left rows) old)
@@ -101,7 +106,8 @@ words-left class none rows old word =
 
 -- the branches and jumps at a word
 pub branch_words-left : (rows old : List Passage) (word : ℕ)
-    → count_at (word_in Branch) (filter has_left rows ++ old) word ≡ count_at (word_in Branch) old word + count_at (word_in Branch) rows word
+    → count_at (word_in Branch) (filter has_left rows ++ old) word ≡ count_at (word_in Branch) old word
+    + count_at (word_in Branch) rows word
 branch_words-left = words-left Branch (λ p is. rw (unretired p is) refl)
 
 -- those that were mispredicted there

@@ -11,7 +11,8 @@ map-replicate : {X Y : Type 0} (f : X → Y) (n : ℕ) (x : X) → map f (replic
 map-replicate f zero x = refl
 map-replicate f (suc n) x = ap (λ xs. f x ∷ xs) (map-replicate f n x)
 
-slice_get-append : (lines : List Line) (more : Line) (at : ℕ) → at < length lines → slice_get (lines ++ more ∷ []) at ≡ slice_get lines at
+slice_get-append : (lines : List Line) (more : Line) (at : ℕ) → at < length lines →
+    slice_get (lines ++ more ∷ []) at ≡ slice_get lines at
 slice_get-append [] more at within = absurd (omega arith)
 slice_get-append (line ∷ lines) more zero within = refl
 slice_get-append (line ∷ lines) more (suc at) within = slice_get-append lines more at (omega arith)
@@ -38,7 +39,8 @@ lines_at_append lines more (place ∷ places) within =
 pub lines_at-replicate : (lines : List Line) (places : List (Option ℕ)) (count : ℕ) (place : Option ℕ) →
     lines_at lines (places ++ replicate count place) ≡ lines_at lines places ++ replicate count (line_in lines place)
 lines_at-replicate lines places count place =
-    map-append (line_in lines) places (replicate count place) ∙ ap (λ more. lines_at lines places ++ more) (map-replicate (line_in lines) count place)
+    map-append (line_in lines) places (replicate count place)
+    ∙ ap (λ more. lines_at lines places ++ more) (map-replicate (line_in lines) count place)
 
 -- words more of a line more
 pub lines_at-pushed : (lines : List Line) (more : Line) (places : List (Option ℕ)) (count : ℕ) →

@@ -12,7 +12,8 @@ use Rattle.rv_text.proofs.Saying.{says_both, says_nothing, says_same}
 use Rattle.rv_states.specs.Json.{Json, comma_at, values_from}
 
 -- the values of two lists, one after the other
-pub values_from-append : (n : ℕ) (xs ys : List Json) → values_from n (xs ++ ys) ≡ values_from n xs ++ values_from (n + length xs) ys
+pub values_from-append : (n : ℕ) (xs ys : List Json) → values_from n (xs ++ ys) ≡ values_from n xs
+    ++ values_from (n + length xs) ys
 values_from-append n [] ys = ap (λ m. values_from m ys) (omega arith)
 values_from-append n (x ∷ xs) ys =
     let same : n + 1 + length xs ≡ n + suc (length xs) = omega arith in
@@ -24,7 +25,8 @@ module _ (items : List Json) (place : ℕ) (here : place < length items) where
   so_many : length (take place items) ≡ place
   so_many = length-take-le place items (omega (arith, here))
 
-  values-more : values_from 0 (take (place + 1) items) ≡ values_from 0 (take place items) ++ (comma_at place ++ get_or items place [])
+  values-more : values_from 0 (take (place + 1) items) ≡ values_from 0 (take place items)
+      ++ (comma_at place ++ get_or items place [])
   values-more =
       let at : 0 + length (take place items) ≡ place = omega (arith, so_many) in
       ap (values_from 0) (take_more items place [] here)
@@ -40,18 +42,22 @@ module _ (items : List Json) (place : ℕ) (here : place < length items) where
   says_value front last = says_same (sym values-more) (says_both front last)
 
 -- an array has as many values as the list that they are made of
-pub has_item : {X : Type 0} (text : X → List ℕ) (items : List X) (place : ℕ) → place < length (map text items) → place < length items
+pub has_item : {X : Type 0} (text : X → List ℕ) (items : List X) (place : ℕ) → place < length (map text items) →
+    place < length items
 has_item text items place within = omega (arith, within, length-map items text)
 
 -- the text of an item of a list is that at its place
-module _ {X W : Type 0} {contents : W → Option (List ℕ)} {a b : Sink W} (text : X → List ℕ) (items : List X) (place : ℕ) (item : X) where
+module _ {X W : Type 0} {contents : W → Option (List ℕ)} {a b : Sink W} (text : X → List ℕ) (items : List X)
+    (place : ℕ) (item : X) where
   -- the text of an item is that at its place among all texts
   pub item_said : place < length (map text items) → Says contents a b (text (get_or items place item)) →
       Says contents a b (get_or (map text items) place [])
-  item_said within = says_same (sym (get_or-map text items place item [] (omega (arith, within, length-map items text))))
+  item_said within = says_same
+      (sym (get_or-map text items place item [] (omega (arith, within, length-map items text))))
 
   -- and so where the item is found there
-  pub found_said : slice_get items place ≡ Some item → Says contents a b (text item) → Says contents a b (get_or (map text items) place [])
+  pub found_said : slice_get items place ≡ Some item → Says contents a b (text item) →
+      Says contents a b (get_or (map text items) place [])
   found_said found =
       says_same (ap text (sym (get_or_from_slice_get items place item item found))
       ∙ sym (get_or-map text items place item [] (slice_get_within items place item found)))
@@ -60,7 +66,8 @@ module _ {X W : Type 0} {contents : W → Option (List ℕ)} {a b : Sink W} (tex
 pub missing_said : {X W : Type 0} {contents : W → Option (List ℕ)} {a : Sink W} (text : X → List ℕ) (items : List X)
     (place : ℕ) → slice_get items place ≡ None → Says contents a a (get_or (map text items) place [])
 missing_said {a = a} text items place none =
-    let nothing : unwrap_or (slice_get (map text items) place) [] ≡ [] = ap (λ o. unwrap_or o []) (slice_get-map text items place ∙ ap (option_map text) none) in
+    let nothing : unwrap_or (slice_get (map text items) place) [] ≡ [] =
+    ap (λ o. unwrap_or o []) (slice_get-map text items place ∙ ap (option_map text) none) in
     says_same (sym nothing ∙ unwrap_or-slice_get (map text items) place []) (says_nothing a)
 
 -- an array to which each item of a list gives some values: those of one item more stand after those of the items before
@@ -108,13 +115,16 @@ module _ {X : Type 0} (values : X → List Json) (items : List X) (place written
       )
 
 -- the values of an item that a list has at a place, and of none
-pub found_given : {X : Type 0} (values : X → List Json) (items : List X) (place : ℕ) (item : X) → slice_get items place ≡ Some item →
+pub found_given : {X : Type 0} (values : X → List Json) (items : List X) (place : ℕ) (item : X) →
+    slice_get items place ≡ Some item →
     values item ≡ get_or (map values items) place []
 found_given values items place item found =
-    given_at values items place item (slice_get_within items place item found) (sym (get_or_from_slice_get items place item item found))
+    given_at values items place item (slice_get_within items place item found)
+    (sym (get_or_from_slice_get items place item item found))
 
 -- where no item is found, nothing is given
 pub missing_given : {X : Type 0} (values : X → List Json) (items : List X) (place : ℕ) → slice_get items place ≡ None →
     [] ≡ get_or (map values items) place []
 missing_given values items place none =
-    sym (ap (λ o. unwrap_or o []) (slice_get-map values items place ∙ ap (option_map values) none)) ∙ unwrap_or-slice_get (map values items) place []
+    sym (ap (λ o. unwrap_or o []) (slice_get-map values items place ∙ ap (option_map values) none))
+    ∙ unwrap_or-slice_get (map values items) place []

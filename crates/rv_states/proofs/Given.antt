@@ -23,7 +23,8 @@ module _ {X W : Type 0} {contents : W → Option (List ℕ)} (values : X → Lis
   -- one item more gives its value, if it has one
   pub given_on : {place written now : ℕ} {first out out' : Sink W} → place < length items →
       AreGiven contents values items place written first out →
-      (given : List Json) → given ≡ get_or (map values items) place [] → Says contents out out' (values_from written given) →
+      (given : List Json) → given ≡ get_or (map values items) place [] →
+      Says contents out out' (values_from written given) →
       now ≡ written + length given → now ≤ written + 1 → AreGiven contents values items (place + 1) now first out'
   given_on {place} {written} {now} here so_far given is said count few = record {
     said = says_given values items place written here so_far.count so_far.said
@@ -34,6 +35,7 @@ module _ {X W : Type 0} {contents : W → Option (List ℕ)} (values : X → Lis
 
   -- after the last item all values are given
   pub given_all : {place written : ℕ} {first out : Sink W} → length items ≤ place →
-      AreGiven contents values items place written first out → Says contents first out (values_from 0 (flat_map values items))
+      AreGiven contents values items place written first out →
+      Says contents first out (values_from 0 (flat_map values items))
   given_all {place} past so_far =
       says_same (ap (λ l. values_from 0 (flat_map values l)) (take_all place items past)) so_far.said

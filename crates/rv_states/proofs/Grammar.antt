@@ -27,7 +27,8 @@ truth_of false = grammar.falsehood
 plain : (text : List ℕ) → list_all is_unescaped text ≡ true → AreCharacters text
 plain [] all = no_characters
 plain (byte ∷ bytes) all =
-    let parts = and_parts (is_unescaped byte) (list_all is_unescaped bytes) all in unescaped byte bytes parts.0 (plain bytes parts.1)
+    let parts = and_parts (is_unescaped byte) (list_all is_unescaped bytes) all in
+    unescaped byte bytes parts.0 (plain bytes parts.1)
 
 a_string : (text : List ℕ) → list_all is_unescaped text ≡ true → IsString (codes "\"" ++ (text ++ codes "\""))
 a_string text all = grammar.in_quotes text (plain text all)
@@ -40,8 +41,10 @@ in_quotes text all = grammar.string _ (a_string text all)
 -- a user's text
 both_characters : {xs ys : List ℕ} → AreCharacters xs → AreCharacters ys → AreCharacters (xs ++ ys)
 both_characters no_characters after = after
-both_characters {ys = ys} (unescaped byte others test more) after = unescaped byte (others ++ ys) test (both_characters more after)
-both_characters {ys = ys} (escaped high low others test more) after = escaped high low (others ++ ys) test (both_characters more after)
+both_characters {ys = ys} (unescaped byte others test more) after =
+    unescaped byte (others ++ ys) test (both_characters more after)
+both_characters {ys = ys} (escaped high low others test more) after =
+    escaped high low (others ++ ys) test (both_characters more after)
 
 one_of : (test : Bool) {xs ys : List ℕ} → (test ≡ true → AreCharacters xs) → (test ≡ false → AreCharacters ys) →
     AreCharacters (if test then xs else ys)
@@ -62,10 +65,12 @@ byte_of byte =
     one_of (byte == 38) (λ _. escaped 50 54 [] refl no_characters) (λ _.
     one_of (byte == 60) (λ _. escaped 51 99 [] refl no_characters) (λ _.
     one_of (byte == 62) (λ _. escaped 51 101 [] refl no_characters) (λ _.
-    one_of (byte == 92) (λ _. escaped 53 99 [] refl no_characters) (λ no_backslash. shown byte no_quote no_backslash)))))
+    one_of (byte == 92) (λ _. escaped 53 99 [] refl no_characters)
+    (λ no_backslash. shown byte no_quote no_backslash)))))
 
 bytes_of : (text : List ℕ) → AreCharacters (flat_map json_byte text)
-bytes_of text = each_of AreCharacters no_characters (λ xs ys. both_characters {xs = xs} {ys = ys}) json_byte byte_of text
+bytes_of text = each_of AreCharacters no_characters (λ xs ys. both_characters {xs = xs} {ys = ys})
+    json_byte byte_of text
 
 -- any text as a string is JSON
 pub string_of : (text : List ℕ) → IsJson (string text)
@@ -89,24 +94,28 @@ pub array_of : (values : List Json) → AllJson values → IsJson (array values)
 unfolding array comma_at
 array_of [] all = empty_array
 array_of (value ∷ values) all =
-    subst IsJson (ap (λ l. codes "[" ++ l) (sym (append_assoc value (values_from 1 values) (codes "]")))) (grammar.array value (values_from 1 values) all.0 (further_values 0 values all.1))
+    subst IsJson (ap (λ l. codes "[" ++ l) (sym (append_assoc value (values_from 1 values) (codes "]"))))
+    (grammar.array value (values_from 1 values) all.0 (further_values 0 values all.1))
 
 -- members after members are members
 pub both : {xs ys : List ℕ} → AreMembers xs → AreMembers ys → AreMembers (xs ++ ys)
 both no_members after = after
 both {ys = ys} (further_member first others is more) after =
-    subst AreMembers (ap (λ l. codes "," ++ l) (sym (append_assoc first others ys))) (further_member first (others ++ ys) is (both more after))
+    subst AreMembers (ap (λ l. codes "," ++ l) (sym (append_assoc first others ys)))
+    (further_member first (others ++ ys) is (both more after))
 
 -- a member of a name that needs no escape
 member_text : List ℕ → List ℕ → List ℕ
 member_text name value = (codes "\"" ++ (name ++ codes "\"")) ++ (codes ":" ++ value)
 
-a_member : (name : List ℕ) {value : List ℕ} → list_all is_unescaped name ≡ true → IsJson value → IsMember (member_text name value)
+a_member : (name : List ℕ) {value : List ℕ} → list_all is_unescaped name ≡ true → IsJson value →
+    IsMember (member_text name value)
 unfolding member_text
 a_member name {value} all is = named (codes "\"" ++ (name ++ codes "\"")) value (a_string name all) is
 
 -- such a name with a value is one
-pub member : (name : List ℕ) {value : List ℕ} → list_all is_unescaped name ≡ true → IsJson value → AreMembers (also name value)
+pub member : (name : List ℕ) {value : List ℕ} → list_all is_unescaped name ≡ true → IsJson value →
+    AreMembers (also name value)
 unfolding member_text key also
 member name {value} all is =
     let same : codes "," ++ (member_text name value ++ []) ≡ also name value = simp (append_assoc, append-nil) in
@@ -121,10 +130,17 @@ pub record IsOpen (text : List ℕ) : Type 0 where
   pub text_is : text ≡ codes "{" ++ (first ++ others)
 
 -- a brace and a member
-pub beginning : (name : List ℕ) {value : List ℕ} → list_all is_unescaped name ≡ true → IsJson value → IsOpen (begins name value)
+pub beginning : (name : List ℕ) {value : List ℕ} → list_all is_unescaped name ≡ true → IsJson value →
+    IsOpen (begins name value)
 unfolding member_text opens begins
 beginning name {value} all is =
-    record { first = member_text name value; others = []; is = a_member name all is; are = no_members; text_is = simp (append_assoc, append-nil) }
+    record {
+      first = member_text name value;
+      others = [];
+      is = a_member name all is;
+      are = no_members;
+      text_is = simp (append_assoc, append-nil);
+    }
 
 -- an open object with members more is still open
 pub begun : {xs ys : List ℕ} → IsOpen xs → AreMembers ys → IsOpen (xs ++ ys)
@@ -158,19 +174,23 @@ more {end = end} {xs = xs} first rest = record {
 pub last : {end : List ℕ} (name : List ℕ) {value : List ℕ} → list_all is_unescaped name ≡ true → IsJson value →
     Closes end (key name ++ (value ++ (codes "}" ++ end)))
 unfolding also
-last {end = end} name {value} all is = subst (Closes end) (append_assoc (key name) value (codes "}" ++ end)) (more (member name all is) closes)
+last {end = end} name {value} all is = subst (Closes end) (append_assoc (key name) value (codes "}" ++ end))
+    (more (member name all is) closes)
 
 -- a whole object
 whole : List ℕ → List ℕ → List ℕ
 whole first others = codes "{" ++ (first ++ (others ++ codes "}"))
 
-whole_is : {end xs ys : List ℕ} (front : IsOpen xs) (rest : Closes end ys) → whole front.first (front.others ++ rest.members) ++ end ≡ xs ++ ys
+whole_is : {end xs ys : List ℕ} (front : IsOpen xs) (rest : Closes end ys) →
+    whole front.first (front.others ++ rest.members) ++ end ≡ xs ++ ys
 unfolding whole
 whole_is {end = end} front rest =
-    let same : whole front.first (front.others ++ rest.members) ++ end ≡ (codes "{" ++ (front.first ++ front.others)) ++ (rest.members ++ (codes "}" ++ end)) = simp append_assoc in
+    let same : whole front.first (front.others ++ rest.members) ++ end ≡ (codes "{" ++ (front.first ++ front.others))
+    ++ (rest.members ++ (codes "}" ++ end)) = simp append_assoc in
     same ∙ (λ i. sym front.text_is i ++ sym rest.text_is i)
 
-whole_json : {end xs ys : List ℕ} (front : IsOpen xs) (rest : Closes end ys) → IsJson (whole front.first (front.others ++ rest.members))
+whole_json : {end xs ys : List ℕ} (front : IsOpen xs) (rest : Closes end ys) →
+    IsJson (whole front.first (front.others ++ rest.members))
 unfolding whole
 whole_json front rest = grammar.object front.first (front.others ++ rest.members) front.is (both front.are rest.are)
 
@@ -190,7 +210,8 @@ one_line {value} is = line value [] is no_lines
 pub lines_both : {xs ys : List ℕ} → AreLines xs → AreLines ys → AreLines (xs ++ ys)
 lines_both no_lines after = after
 lines_both {ys = ys} (line value others is more) after =
-    subst AreLines (sym (append_assoc value (codes "\n" ++ others) ys)) (line value (others ++ ys) is (lines_both more after))
+    subst AreLines (sym (append_assoc value (codes "\n" ++ others) ys))
+    (line value (others ++ ys) is (lines_both more after))
 
 -- lines where something holds, else none
 pub lines_where : (shown : Bool) {text : List ℕ} → AreLines text → AreLines (if shown then text else [])

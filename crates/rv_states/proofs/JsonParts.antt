@@ -80,17 +80,20 @@ numbers v = begun (sizes v) (both (widths v) (both (buffers v) (recovery v.recov
 
 kind_of : (k : KindValues) → IsSafe IsJson (kind_json k)
 unfolding kind_json
-kind_of k = object (beginning _ refl (number _)) (more (both (counted _ refl _) (both (counted _ refl _) (member _ refl (truth_of _)))) closes)
+kind_of k = object (beginning _ refl (number _))
+    (more (both (counted _ refl _) (both (counted _ refl _) (member _ refl (truth_of _)))) closes)
 
 kinds : (v : Values) → IsSafe AreMembers (kinds_text v)
 unfolding kinds_text
-kinds v = both (member _ refl (kind_of _)) (both (member _ refl (kind_of _)) (both (member _ refl (kind_of _)) (member _ refl (kind_of _))))
+kinds v = both (member _ refl (kind_of _))
+    (both (member _ refl (kind_of _)) (both (member _ refl (kind_of _)) (member _ refl (kind_of _))))
 
 cache : (c : CacheValues) → IsSafe IsJson (cache_json c)
 unfolding cache_json
 cache c =
     object (beginning _ refl (number _))
-    (more (both (counted _ refl _) (both (counted _ refl _) (both (counted _ refl _) (both (counted _ refl _) (counted _ refl _))))) closes)
+    (more (both (counted _ refl _)
+    (both (counted _ refl _) (both (counted _ refl _) (both (counted _ refl _) (counted _ refl _))))) closes)
 
 predictor_named : (p : PredictorKind) → IsSafe IsJson (quoted (predictor_name p))
 predictor_named p = in_quotes _ (word-safe (predictor_name p) (predictor_name-word p))
@@ -101,7 +104,8 @@ predictor p = object (beginning _ refl (number _)) (more (member _ refl (predict
 
 machine : (v : Values) → IsSafe IsJson (machine_json v)
 unfolding machine_json
-machine v = object (numbers v) (more (kinds v) (more (member _ refl (cache _)) (more (member _ refl (predictor _)) closes)))
+machine v = object (numbers v)
+    (more (kinds v) (more (member _ refl (cache _)) (more (member _ refl (predictor _)) closes)))
 
 format : (first : ℕ) → IsSafe IsOpen (format_text first)
 unfolding format_text
@@ -133,7 +137,8 @@ line_if_is before address (Some line) = line_is _ address line
 -- the lines of the program are
 pub listing_is : (listing : Listed) (v : Values) → IsSafe AreLines (listing_lines listing v)
 unfolding listing_lines
-listing_is listing v = lines_each _ (λ n. line_if_is _ (word_address v.ram_base n) (line_at listing (word_address v.ram_base n))) _
+listing_is listing v = lines_each _
+    (λ n. line_if_is _ (word_address v.ram_base n) (line_at listing (word_address v.ram_base n))) _
 
 -- memory and the cache
 pub word_is : (address word : ℕ) (stale : Bool) → IsSafe AreLines (word_text address word stale)
@@ -148,7 +153,8 @@ cache_line line = object (beginning _ refl (number _)) (more (member _ refl (tru
 -- the lines of a set of the cache are
 pub set_is : (set : ℕ) (lines : List CacheLine) → IsSafe AreLines (lines_text set lines)
 unfolding lines_text
-set_is set lines = object_line (beginning _ refl (number _)) (more (member _ refl (array_of _ (each_safe line_json cache_line lines))) closes)
+set_is set lines = object_line (beginning _ refl (number _))
+    (more (member _ refl (array_of _ (each_safe line_json cache_line lines))) closes)
 
 -- the reorder buffer
 kind_is : (kind : Option Kind) → IsSafe AreMembers (kind_text kind)
@@ -197,15 +203,18 @@ operand_is register operand = object (beginning _ refl (number _)) (more (known_
 passage_is : (p : Passage) → IsSafe AreMembers (passage_text p)
 unfolding passage_text
 passage_is p =
-    both (counted _ refl p.pc) (both (counted_some _ refl p.word) (both (counted _ refl p.fetched) (both (counted_some _ refl p.dispatched)
+    both (counted _ refl p.pc)
+    (both (counted_some _ refl p.word) (both (counted _ refl p.fetched) (both (counted_some _ refl p.dispatched)
     (both (counted_some (codes "issued") refl (option_map (λ (issue : Issue). issue.cycle) p.issue))
-    (both (counted_some (codes "cost") refl (option_map (λ (issue : Issue). issue.cost) p.issue)) (counted_some _ refl p.broadcast))))))
+    (both (counted_some (codes "cost") refl (option_map (λ (issue : Issue). issue.cost) p.issue))
+    (counted_some _ refl p.broadcast))))))
 
 ending_is : (e : Ending) → IsSafe AreMembers (ending_text e)
 unfolding retired_text trapped_text squashed_text
 ending_is ending.InFlight = no_members
 ending_is (ending.Retired order cycle None next) = member _ refl (in_quotes _ refl)
-ending_is (ending.Retired order cycle (Some written) next) = both (member _ refl (in_quotes _ refl)) (both (counted _ refl _) (counted _ refl _))
+ending_is (ending.Retired order cycle (Some written) next) =
+    both (member _ refl (in_quotes _ refl)) (both (counted _ refl _) (counted _ refl _))
 ending_is (ending.Trapped cycle cause) = both (member _ refl (in_quotes _ refl)) (counted _ refl _)
 ending_is (ending.Squashed cycle) = member _ refl (in_quotes _ refl)
 
@@ -215,7 +224,8 @@ unless false are = are
 
 details_are : (p : Passage) → IsSafe AreMembers (details_text p)
 unfolding ended_text
-details_are p = let all : IsSafe AreMembers (ended_text p) = both (passage_is p) (ending_is p.ending) in unless (is_in_flight p) all
+details_are p = let all : IsSafe AreMembers (ended_text p) = both (passage_is p) (ending_is p.ending) in
+    unless (is_in_flight p) all
 
 -- an instruction is a value
 pub instruction_is : (p : Passage) → IsSafe IsJson (instruction_json p)
@@ -227,14 +237,16 @@ pub step_is : (s : Step) → IsSafe IsJson (step_json s)
 unfolding retirement_json trap_json interrupt_json
 step_is (step.Retired row) = object (beginning _ refl (number _)) (more (member _ refl (in_quotes _ refl)) closes)
 step_is (step.Trap pc cause value cycle) =
-    object (beginning _ refl (number _)) (more (both (member _ refl (in_quotes _ refl)) (both (counted _ refl _) (counted _ refl _))) closes)
+    object (beginning _ refl (number _))
+    (more (both (member _ refl (in_quotes _ refl)) (both (counted _ refl _) (counted _ refl _))) closes)
 step_is (step.Interrupt pc cause cycle) =
     object (beginning _ refl (number _)) (more (both (member _ refl (in_quotes _ refl)) (counted _ refl _)) closes)
 
 -- the fetch buffer
 pub fetched_is : (f : Fetched) → IsSafe IsJson (fetched_json f)
 unfolding fetched_json
-fetched_is f = object (beginning _ refl (number _)) (more (both (counted_some _ refl _) (both (counted _ refl _) (counted _ refl _))) closes)
+fetched_is f = object (beginning _ refl (number _))
+    (more (both (counted_some _ refl _) (both (counted _ refl _) (counted _ refl _))) closes)
 
 -- where the fetch goes on is members of an object
 pub next_fetch_is : (f : FetchBuffer) → IsSafe AreMembers (next_fetch_text f)
@@ -254,7 +266,8 @@ pub units_are : (units : PerKind Pool) → IsSafe IsJson (units_json units)
 unfolding units_json
 units_are units =
     object (beginning _ refl (starts_are units.alu))
-    (more (member _ refl (starts_are units.mul)) (more (member _ refl (starts_are units.div)) (more (member _ refl (starts_are units.mem)) closes)))
+    (more (member _ refl (starts_are units.mul))
+    (more (member _ refl (starts_are units.div)) (more (member _ refl (starts_are units.mem)) closes)))
 
 -- the store queue
 access_is : (access : StoreAccess) → IsSafe AreMembers (access_text access)
@@ -279,7 +292,8 @@ filling_is (Filled access phase) = access_is access
 -- a store is a value
 pub store_is : (store : Store) → IsSafe IsJson (store_json store)
 unfolding store_head store_json
-store_is store = object (begun (beginning _ refl (number _)) (member _ refl (state_is _))) (more (filling_is store.state) closes)
+store_is store = object (begun (beginning _ refl (number _)) (member _ refl (state_is _)))
+    (more (filling_is store.state) closes)
 
 -- what retired instructions left
 levels_are : (lines : Lines) → IsSafe AreMembers (levels_text lines)
@@ -293,7 +307,8 @@ csrs_are kept lines =
     (more (both (counted _ refl _) (both (counted _ refl _) (both (counted _ refl _) (counted _ refl _)))) closes)
 
 -- the state that programs see is an object that is still open
-pub observed_is : (pc : ℕ) (registers : List ℕ) (kept : Kept) (lines : Lines) → IsSafe IsOpen (observed_text pc registers kept lines)
+pub observed_is : (pc : ℕ) (registers : List ℕ) (kept : Kept) (lines : Lines) →
+    IsSafe IsOpen (observed_text pc registers kept lines)
 unfolding observed_text
 observed_is pc registers kept lines =
     begun (beginning _ refl (number _))
@@ -315,9 +330,11 @@ stop_is cycles stop = one_line (object (beginning _ refl (number _)) (more (memb
 -- a place of the predictor's tables
 pub place_is : (place counter : ℕ) (target : Option ℕ) → IsSafe IsJson (place_json place counter target)
 unfolding place_json
-place_is place counter target = object (beginning _ refl (number place)) (more (both (counted _ refl counter) (counted_some _ refl target)) closes)
+place_is place counter target =
+    object (beginning _ refl (number place)) (more (both (counted _ refl counter) (counted_some _ refl target)) closes)
 
 -- a word that it was asked of
 pub asked_is : (pc : ℕ) (place : Option ℕ) (answer : ℕ) → IsSafe IsJson (asked_json pc place answer)
 unfolding asked_json
-asked_is pc place answer = object (beginning _ refl (number pc)) (more (both (counted_some _ refl place) (counted _ refl answer)) closes)
+asked_is pc place answer =
+    object (beginning _ refl (number pc)) (more (both (counted_some _ refl place) (counted _ refl answer)) closes)

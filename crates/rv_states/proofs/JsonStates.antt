@@ -67,7 +67,8 @@ totals : (p : Progress) → IsSafe IsJson (counts_json p)
 unfolding counts_json
 totals p =
     object (beginning _ refl (number _)) (more (counted _ refl _)
-    (more (members_each (stall_count p.stalls) (λ reason. counted (stall_name reason) (stall_name-safe reason) _) all_stalls) closes))
+    (more (members_each (stall_count p.stalls) (λ reason. counted (stall_name reason) (stall_name-safe reason)
+    _) all_stalls) closes))
 
 counts : (p : Progress) → IsSafe AreMembers (counts_text p)
 unfolding counts_text
@@ -80,10 +81,12 @@ unfolding operand_text
 operand name plain status None = no_members
 operand name plain status (Some register) = member name plain (operand_is register (status register))
 
-operands : (status : RegisterStatus) (stage : Stage) (instruction : Option Instr) → IsSafe AreMembers (operands_text status stage instruction)
+operands : (status : RegisterStatus) (stage : Stage) (instruction : Option Instr) →
+    IsSafe AreMembers (operands_text status stage instruction)
 unfolding operands_of
 operands status Waiting None = no_members
-operands status Waiting (Some instruction) = both (operand (codes "first") refl status _) (operand (codes "second") refl status _)
+operands status Waiting (Some instruction) =
+    both (operand (codes "first") refl status _) (operand (codes "second") refl status _)
 operands status (Running issue message) instruction = no_members
 operands status (Finished issue cycle message) instruction = no_members
 
@@ -104,7 +107,8 @@ in_flight h =
 
 parts : (h : Hardware) → IsSafe AreMembers (parts_text h)
 unfolding parts_text
-parts h = both (member _ refl (units_are _)) (both (member _ refl (array_of _ (each_safe store_json store_is _))) (counted _ refl _))
+parts h = both (member _ refl (units_are _))
+    (both (member _ refl (array_of _ (each_safe store_json store_is _))) (counted _ refl _))
 
 state : (h : Hardware) → IsSafe IsJson (state_json h)
 unfolding state_json
@@ -134,7 +138,8 @@ one_after_the_other : (xs ys : List (List ℕ)) → AllSafe xs → AllSafe ys �
 one_after_the_other [] ys first second = second
 one_after_the_other (x ∷ xs) ys first second = (first.0, one_after_the_other xs ys first.1 second)
 
-all_given : {X : Type 0} (values : X → List (List ℕ)) → ((x : X) → AllSafe (values x)) → (xs : List X) → AllSafe (flat_map values xs)
+all_given : {X : Type 0} (values : X → List (List ℕ)) → ((x : X) → AllSafe (values x)) → (xs : List X) →
+    AllSafe (flat_map values xs)
 all_given values are [] = tt
 all_given values are (x ∷ xs) = one_after_the_other (values x) (flat_map values xs) (are x) (all_given values are xs)
 
@@ -143,9 +148,11 @@ taught_place tables (Retired row) = if_shown (uses_tables (flow_at row.pc row.wo
 taught_place tables (Trap pc cause value cycle) = tt
 taught_place tables (Interrupt pc cause cycle) = tt
 
-learned_in : (kept : Option Tables) (steps : List Step) → IsSafe AreMembers (option_map_or (λ tables. learned_places tables steps) kept [])
+learned_in : (kept : Option Tables) (steps : List Step) →
+    IsSafe AreMembers (option_map_or (λ tables. learned_places tables steps) kept [])
 learned_in None steps = no_members
-learned_in (Some tables) steps = member _ refl (array_of _ (all_given (place_taught tables) (taught_place tables) steps))
+learned_in (Some tables) steps =
+    member _ refl (array_of _ (all_given (place_taught tables) (taught_place tables) steps))
 
 learned : (predictor : DescribedPredictor) (steps : List Step) → IsSafe AreMembers (learned_text predictor steps)
 unfolding learned_text
@@ -155,10 +162,12 @@ asked_word : (predictor : DescribedPredictor) (pc : ℕ) (word : Option ℕ) →
 asked_word predictor pc None = tt
 asked_word predictor pc (Some word) = (asked_is pc (place_in predictor pc) (answer predictor pc (flow_at pc word)), tt)
 
-asked : (predictor : DescribedPredictor) (n : ℕ) (words : List Fetched) → IsSafe AreMembers (asked_text predictor n words)
+asked : (predictor : DescribedPredictor) (n : ℕ) (words : List Fetched) →
+    IsSafe AreMembers (asked_text predictor n words)
 unfolding asked_text
 asked predictor n words =
-    member _ refl (array_of _ (all_given (asked_in predictor n) (λ f. if_shown (f.cycle == n) _ (asked_word predictor f.pc f.word)) words))
+    member _ refl (array_of _
+    (all_given (asked_in predictor n) (λ f. if_shown (f.cycle == n) _ (asked_word predictor f.pc f.word)) words))
 
 predictor_is : (predictor : DescribedPredictor) (n : ℕ) (steps : List Step) (words : List Fetched) →
     IsSafe AreMembers (predictor_text predictor n steps words)
@@ -178,7 +187,8 @@ cycle : (n : ℕ) (rows : List Passage) (steps : List Step) (h : Hardware) (p : 
     (predictor : DescribedPredictor) → IsSafe AreLines (cycle_line n rows steps h p predictor)
 unfolding cycle_line
 cycle n rows steps h p predictor =
-    object_line (beginning _ refl (number _)) (more (member _ refl (array_of _ (each_safe instruction_json instruction_is rows)))
+    object_line (beginning _ refl (number _))
+    (more (member _ refl (array_of _ (each_safe instruction_json instruction_is rows)))
     (more (member _ refl (array_of _ (each_safe step_json step_is steps)))
     (more (rest h p) (more (predictor_is predictor n steps h.front.entries) closes))))
 
@@ -191,15 +201,18 @@ lines_of_set n [] = no_lines
 lines_of_set n (line ∷ lines) = set_is n (line ∷ lines)
 
 memory : (h : Hardware) (address : ℕ) → IsSafe AreLines (memory_line h address)
-memory h address = word address (set.contains h.stale (word_of address)) (word_seen (layout_of h.values) (seen h).ram address)
+memory h address = word address (set.contains h.stale (word_of address))
+    (word_seen (layout_of h.values) (seen h).ram address)
 
 storage : (h : Hardware) → IsSafe AreLines (storage_text h)
 unfolding memory_lines set_lines storage_text
 storage h =
-    lines_both (lines_each (λ n. memory_line h (word_address h.values.ram_base n)) (λ n. memory h (word_address h.values.ram_base n)) _)
+    lines_both (lines_each (λ n. memory_line h (word_address h.values.ram_base n))
+    (λ n. memory h (word_address h.values.ram_base n)) _)
     (lines_each (set_line h) (λ n. lines_of_set n (get_or h.cache.sets n [])) _)
 
-window : (rows : List Passage) (h : Hardware) (p : Progress) (predictor : DescribedPredictor) → IsSafe AreLines (window_text rows h p predictor)
+window : (rows : List Passage) (h : Hardware) (p : Progress) (predictor : DescribedPredictor) →
+    IsSafe AreLines (window_text rows h p predictor)
 unfolding window_text
 window rows h p predictor = lines_both (storage h) (lines_both (places predictor) (start rows h p))
 
@@ -209,7 +222,8 @@ shown from c predictor =
     lines_both (lines_where _ (cycle c.number c.passages.rows c.report.steps c.after (progress_of c.reports) predictor))
     (lines_where _ (window c.passages.rows c.after (progress_of c.reports) predictor))
 
-all_shown : (from : ℕ) (predictor : DescribedPredictor) (cycles : List FollowedCycle) → IsSafe AreLines (cycles_text from predictor cycles)
+all_shown : (from : ℕ) (predictor : DescribedPredictor) (cycles : List FollowedCycle) →
+    IsSafe AreLines (cycles_text from predictor cycles)
 all_shown from predictor [] = no_lines
 all_shown from predictor (c ∷ cycles) = lines_both (shown from c _) (all_shown from (taught_by predictor c) cycles)
 
@@ -218,5 +232,6 @@ pub states_are : (from : ℕ) (listing : Listed) (first : Hardware) (moments : L
     IsSafe AreLines (states_text from listing first moments stop)
 unfolding opening_text head_text lines_text states_text
 states_are from listing first moments stop =
-    lines_both (lines_both (lines_both (lines_both (header_is from _) (listing_is listing _)) (lines_where _ (window _ first _ _)))
+    lines_both (lines_both (lines_both (lines_both (header_is from _) (listing_is listing _))
+    (lines_where _ (window _ first _ _)))
     (all_shown from (untaught_predictor first.values) (walk still_open first moments))) (stop_is (length moments) stop)

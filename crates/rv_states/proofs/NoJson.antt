@@ -42,7 +42,8 @@ is_plain byte = (nat_le 32 byte && nat_le byte 126) && not ((byte == 34) || (byt
 abbrev after_other : ℕ → List Need → Option (List Need)
 after_other byte needs =
     if byte == 34 then Some needs
-    else (if byte == 92 then Some (map Byte (codes "u00") ++ (Hexadecimal ∷ Hexadecimal ∷ Characters ∷ needs)) else None)
+    else (if byte == 92 then Some (map Byte (codes "u00")
+    ++ (Hexadecimal ∷ Hexadecimal ∷ Characters ∷ needs)) else None)
 
 -- after the first byte of a value that is no number, or is zero
 abbrev after_start : ℕ → List Need → Option (List Need)
@@ -71,7 +72,8 @@ after_byte byte (Hexadecimal ∷ needs) = if is_digit byte 16 then Some needs el
 after_byte byte (Characters ∷ needs) = if is_plain byte then Some (Characters ∷ needs) else after_other byte needs
 after_byte byte (Value ∷ needs) = after_first byte needs
 after_byte byte (Digits ∷ needs) = if is_ascii_digit byte then Some (Digits ∷ needs) else after_byte byte needs
-after_byte byte (FirstValue ∷ needs) = either (after_first byte (FurtherValues ∷ needs)) (if byte == 93 then Some needs else None)
+after_byte byte (FirstValue ∷ needs) =
+    either (after_first byte (FurtherValues ∷ needs)) (if byte == 93 then Some needs else None)
 after_byte byte (FurtherValues ∷ needs) =
     if byte == 44 then Some (Value ∷ FurtherValues ∷ needs) else (if byte == 93 then Some needs else None)
 after_byte byte (FurtherMembers ∷ needs) =
@@ -97,24 +99,28 @@ abbrev begins_digit : List ℕ → Bool
 begins_digit [] = false
 begins_digit (byte ∷ bytes) = is_ascii_digit byte
 
-number_ends : (needs : List Need) (rest : List ℕ) → begins_digit rest ≡ false → reads (Digits ∷ needs) rest ≡ reads needs rest
+number_ends : (needs : List Need) (rest : List ℕ) → begins_digit rest ≡ false →
+    reads (Digits ∷ needs) rest ≡ reads needs rest
 number_ends needs [] ends = refl
 number_ends needs (byte ∷ bytes) ends =
-    ap (λ test. option_map_or (λ after. reads after bytes) (if test then Some (Digits ∷ needs) else after_byte byte needs) false) ends
+    ap (λ test. option_map_or (λ after. reads after bytes)
+    (if test then Some (Digits ∷ needs) else after_byte byte needs) false) ends
 
 reads_digits : (needs : List Need) (ds rest : List ℕ) → list_all is_ascii_digit ds ≡ true → begins_digit rest ≡ false →
     reads (Digits ∷ needs) (ds ++ rest) ≡ reads needs rest
 reads_digits needs [] rest all ends = number_ends needs rest ends
 reads_digits needs (d ∷ ds) rest all ends =
     let parts = and_parts (is_ascii_digit d) (list_all is_ascii_digit ds) all in
-    ap (λ test. option_map_or (λ after. reads after (ds ++ rest)) (if test then Some (Digits ∷ needs) else after_byte d needs) false) parts.0 ∙
+    ap (λ test. option_map_or (λ after. reads after (ds ++ rest))
+    (if test then Some (Digits ∷ needs) else after_byte d needs) false) parts.0 ∙
     reads_digits needs ds rest parts.1 ends
 
 reads_number : {text : List ℕ} → IsNumber text → (needs : List Need) (rest : List ℕ) → begins_digit rest ≡ false →
     reads (Value ∷ needs) (text ++ rest) ≡ reads needs rest
 reads_number zero_alone needs rest ends = refl
 reads_number (digits first others test all) needs rest ends =
-    ap (λ test. option_map_or (λ after. reads after (others ++ rest)) (if test then Some (Digits ∷ needs) else after_start first needs) false) test ∙
+    ap (λ test. option_map_or (λ after. reads after (others ++ rest))
+    (if test then Some (Digits ∷ needs) else after_start first needs) false) test ∙
     reads_digits needs others rest all ends
 
 reads_characters : {text : List ℕ} → AreCharacters text → (needs : List Need) (rest : List ℕ) →
@@ -137,7 +143,8 @@ reads_name : {text : List ℕ} → IsString text → (needs : List Need) (rest :
 reads_name (in_quotes characters are) needs rest =
     ap (reads (Characters ∷ needs)) (append_assoc characters (codes "\"") rest) ∙ reads_characters are needs rest
 
-reads_string : {text : List ℕ} → IsString text → (needs : List Need) (rest : List ℕ) → reads (Value ∷ needs) (text ++ rest) ≡ reads needs rest
+reads_string : {text : List ℕ} → IsString text → (needs : List Need) (rest : List ℕ) →
+    reads (Value ∷ needs) (text ++ rest) ≡ reads needs rest
 reads_string (in_quotes characters are) needs rest =
     ap (reads (Characters ∷ needs)) (append_assoc characters (codes "\"") rest) ∙ reads_characters are needs rest
 
@@ -190,17 +197,20 @@ mutual
   reads_json (array value others is are) needs rest ends =
       let after = others ++ (codes "]" ++ rest) in
       ap (reads (FirstValue ∷ needs)) (inside value others (codes "]") rest) ∙
-      (first_value is needs after ∙ (reads_json is (FurtherValues ∷ needs) after (ends_value are rest) ∙ reads_values are needs rest))
+      (first_value is needs after ∙ (reads_json is (FurtherValues ∷ needs) after (ends_value are rest)
+      ∙ reads_values are needs rest))
   reads_json (object member others is are) needs rest ends =
       ap (reads (member_then (FurtherMembers ∷ needs))) (inside member others (codes "}") rest) ∙
-      (reads_member is (FurtherMembers ∷ needs) (others ++ (codes "}" ++ rest)) (ends_member are rest) ∙ reads_members are needs rest)
+      (reads_member is (FurtherMembers ∷ needs) (others ++ (codes "}" ++ rest)) (ends_member are rest)
+      ∙ reads_members are needs rest)
 
   reads_values : {text : List ℕ} → AreValues text → (needs : List Need) (rest : List ℕ) →
       reads (FurtherValues ∷ needs) (text ++ (codes "]" ++ rest)) ≡ reads needs rest
   reads_values no_values needs rest = refl
   reads_values (further_value value others is are) needs rest =
       ap (reads (Value ∷ FurtherValues ∷ needs)) (append_assoc value others (codes "]" ++ rest)) ∙
-      (reads_json is (FurtherValues ∷ needs) (others ++ (codes "]" ++ rest)) (ends_value are rest) ∙ reads_values are needs rest)
+      (reads_json is (FurtherValues ∷ needs) (others ++ (codes "]" ++ rest)) (ends_value are rest)
+      ∙ reads_values are needs rest)
 
   reads_member : {text : List ℕ} → IsMember text → (needs : List Need) (rest : List ℕ) → begins_digit rest ≡ false →
       reads (member_then needs) (text ++ rest) ≡ reads needs rest
@@ -213,7 +223,8 @@ mutual
   reads_members no_members needs rest = refl
   reads_members (further_member member others is are) needs rest =
       ap (reads (member_then (FurtherMembers ∷ needs))) (append_assoc member others (codes "}" ++ rest)) ∙
-      (reads_member is (FurtherMembers ∷ needs) (others ++ (codes "}" ++ rest)) (ends_member are rest) ∙ reads_members are needs rest)
+      (reads_member is (FurtherMembers ∷ needs) (others ++ (codes "}" ++ rest)) (ends_member are rest)
+      ∙ reads_members are needs rest)
 
 -- the value of a line is read as a value
 line_string : {text : List ℕ} → IsString text → (needs : List Need) (rest : List ℕ) →
@@ -241,7 +252,8 @@ json_is_read {text} is = ap (reads (Value ∷ [])) (sym (append-nil text)) ∙ r
 lines_are_read : {text : List ℕ} → AreLines text → reads (Lines ∷ []) text ≡ true
 lines_are_read no_lines = refl
 lines_are_read (line value others is are) =
-    line_value is [] (codes "\n" ++ others) ∙ (reads_json is (Byte 10 ∷ Lines ∷ []) (codes "\n" ++ others) refl ∙ lines_are_read are)
+    line_value is [] (codes "\n" ++ others)
+    ∙ (reads_json is (Byte 10 ∷ Lines ∷ []) (codes "\n" ++ others) refl ∙ lines_are_read are)
 
 no_json : {text : List ℕ} → reads (Value ∷ []) text ≡ false → IsJson text → ⊥
 no_json refused is = let taken = json_is_read is in cc

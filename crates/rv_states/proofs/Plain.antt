@@ -28,7 +28,8 @@ either true one other = one
 either false one other = other
 
 -- the other one where the test fails
-unless : (test : Bool) {xs ys : List ℕ} → HasNoMarkup xs → (test ≡ false → HasNoMarkup ys) → HasNoMarkup (if test then xs else ys)
+unless : (test : Bool) {xs ys : List ℕ} → HasNoMarkup xs → (test ≡ false → HasNoMarkup ys) →
+    HasNoMarkup (if test then xs else ys)
 unless true one other = one
 unless false one other = other refl
 
@@ -72,14 +73,17 @@ unfolding key
 named name none = both {xs = codes ",\""} (plain refl) (both {xs = name} {ys = codes "\":"} (plain none) (plain refl))
 
 -- a member of such a name
-pub member : (name : List ℕ) {value : List ℕ} → list_any is_markup name ≡ false → HasNoMarkup value → HasNoMarkup (also name value)
+pub member : (name : List ℕ) {value : List ℕ} → list_any is_markup name ≡ false → HasNoMarkup value →
+    HasNoMarkup (also name value)
 unfolding also
 member name none value = both (named name none) value
 
 -- the beginning of an object
-pub beginning : (name : List ℕ) {value : List ℕ} → list_any is_markup name ≡ false → HasNoMarkup value → HasNoMarkup (begins name value)
+pub beginning : (name : List ℕ) {value : List ℕ} → list_any is_markup name ≡ false → HasNoMarkup value →
+    HasNoMarkup (begins name value)
 unfolding opens begins
-beginning name none value = both (both {xs = codes "{\""} (plain refl) (both {xs = name} {ys = codes "\":"} (plain none) (plain refl))) value
+beginning name none value =
+    both (both {xs = codes "{\""} (plain refl) (both {xs = name} {ys = codes "\":"} (plain none) (plain refl))) value
 
 comma : (place : ℕ) → HasNoMarkup (comma_at place)
 unfolding comma_at
@@ -110,7 +114,8 @@ byte_of : (byte : ℕ) → HasNoMarkup (json_byte byte)
 unfolding json_byte
 byte_of byte =
     either (byte == 34) (plain refl)
-    (unless (byte == 38) (plain refl) (λ no_ampersand. unless (byte == 60) (plain refl) (λ no_less. unless (byte == 62) (plain refl) (λ no_greater.
+    (unless (byte == 38) (plain refl)
+    (λ no_ampersand. unless (byte == 60) (plain refl) (λ no_less. unless (byte == 62) (plain refl) (λ no_greater.
     either (byte == 92) (plain refl) (shown byte no_ampersand no_less no_greater)))))
 
 -- any text as a string

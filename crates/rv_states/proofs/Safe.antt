@@ -56,7 +56,8 @@ array_of values all =
     record { is = grammar.array_of values (all_json values all); plain = markup.array_of values (all_plain values all) }
 
 -- what makes each safe makes all safe
-pub each_safe : {X : Type 0} (json : X → Json) → ((x : X) → IsSafe IsJson (json x)) → (xs : List X) → AllSafe (map json xs)
+pub each_safe : {X : Type 0} (json : X → Json) → ((x : X) → IsSafe IsJson (json x)) → (xs : List X) →
+    AllSafe (map json xs)
 each_safe json are [] = tt
 each_safe json are (x ∷ xs) = (are x, each_safe json are xs)
 
@@ -86,7 +87,8 @@ pub counted : (name : List ℕ) → list_all is_safe_byte name ≡ true → (n :
 counted name safe n = member name safe (number n)
 
 -- and so is one with a number, if there is one
-pub counted_some : (name : List ℕ) → list_all is_safe_byte name ≡ true → (n : Option ℕ) → IsSafe AreMembers (also_some name n)
+pub counted_some : (name : List ℕ) → list_all is_safe_byte name ≡ true → (n : Option ℕ) →
+    IsSafe AreMembers (also_some name n)
 counted_some name safe None = no_members
 counted_some name safe (Some n) = counted name safe n
 
@@ -113,7 +115,10 @@ closes = record { is = grammar.closes; plain = λ after. markup.both {xs = codes
 
 -- and so do members and what closes it
 pub more : {end xs ys : List ℕ} → IsSafe AreMembers xs → SafelyCloses end ys → SafelyCloses end (xs ++ ys)
-more first rest = record { is = grammar.more first.is rest.is; plain = λ after. markup.both first.plain (rest.plain after) }
+more first rest = record {
+  is = grammar.more first.is rest.is;
+  plain = λ after. markup.both first.plain (rest.plain after);
+}
 
 -- a last member, whose value and what stands after it are one text
 pub last : {end : List ℕ} (name : List ℕ) {value : List ℕ} → list_all is_safe_byte name ≡ true → IsSafe IsJson value
@@ -132,7 +137,10 @@ object front rest =
 -- an open object and what closes it with a line feed are a line
 pub object_line : {xs ys : List ℕ} → IsSafe IsOpen xs → SafelyCloses (codes "\n") ys → IsSafe AreLines (xs ++ ys)
 object_line front rest =
-    record { is = grammar.object_line front.is rest.is; plain = markup.both front.plain (rest.plain (markup.plain refl)) }
+    record {
+      is = grammar.object_line front.is rest.is;
+      plain = markup.both front.plain (rest.plain (markup.plain refl));
+    }
 
 -- lines
 pub no_lines : IsSafe AreLines []
@@ -144,7 +152,10 @@ one_line value = record { is = grammar.one_line value.is; plain = markup.both va
 
 -- lines after lines are lines
 pub lines_both : {xs ys : List ℕ} → IsSafe AreLines xs → IsSafe AreLines ys → IsSafe AreLines (xs ++ ys)
-lines_both first second = record { is = grammar.lines_both first.is second.is; plain = markup.both first.plain second.plain }
+lines_both first second = record {
+  is = grammar.lines_both first.is second.is;
+  plain = markup.both first.plain second.plain;
+}
 
 -- and so are those of each item
 pub lines_each : {X : Type 0} (text : X → List ℕ) → ((x : X) → IsSafe AreLines (text x)) → (xs : List X)
@@ -156,5 +167,6 @@ pub lines_where : (shown : Bool) {text : List ℕ} → IsSafe AreLines text → 
 lines_where shown are = record { is = grammar.lines_where shown are.is; plain = markup.chosen shown are.plain }
 
 -- and lines that may be left out
-pub lines_unless : (hidden : Bool) {text : List ℕ} → IsSafe AreLines text → IsSafe AreLines (if hidden then [] else text)
+pub lines_unless : (hidden : Bool) {text : List ℕ} → IsSafe AreLines text →
+    IsSafe AreLines (if hidden then [] else text)
 lines_unless hidden are = record { is = grammar.lines_unless hidden are.is; plain = markup.otherwise hidden are.plain }

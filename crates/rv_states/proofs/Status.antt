@@ -18,21 +18,25 @@ status_push status seq (x ∷ older) e =
     ∙ ap (λ n. status_with (status_after (status_with status seq x) (seq + 1) older) n e) (omega arith)
 
 -- what a register gives after one more instruction
-pub status_more : (status : RegisterStatus) (seq : ℕ) (es : List Entry) (place : ℕ) (e : Entry) (register : ℕ) → slice_get es place ≡ Some e
+pub status_more : (status : RegisterStatus) (seq : ℕ) (es : List Entry) (place : ℕ) (e : Entry) (register : ℕ) →
+    slice_get es place ≡ Some e
     → status_after status seq (take (place + 1) es) register
     ≡ (if writes e register then operand_by (seq + place) (broadcast_of e.stage)
     else status_after status seq (take place es) register)
 status_more status seq es place e register is =
     let within = slice_get_within es place e is in
     let last = get_or_from_slice_get es place e e is in
-    let at : seq + length (take place es) ≡ seq + place = omega (arith, length-take-le place es (omega (arith, within))) in
+    let at : seq + length (take place es) ≡ seq + place =
+    omega (arith, length-take-le place es (omega (arith, within))) in
     ap (λ l. status_after status seq l register) (take_more es place e within ∙ ap (λ x. take place es ++ x ∷ []) last)
     ∙ ap (λ (s : RegisterStatus). s register) (status_push status seq (take place es) e)
     ∙ ap (λ n. status_with (status_after status seq (take place es)) n e register) at
 
 -- the entry at a place of the array
-pub entry_at : (status : RegisterStatus) (seq : ℕ) (es : List Entry) (place : ℕ) (e : Entry) → slice_get es place ≡ Some e → place < length es
-    → entry_json (status_after status seq (take place es)) (seq + place) e ≡ get_or (entries_json status seq es) place []
+pub entry_at : (status : RegisterStatus) (seq : ℕ) (es : List Entry) (place : ℕ) (e : Entry) →
+    slice_get es place ≡ Some e → place < length es
+    → entry_json (status_after status seq (take place es)) (seq + place) e
+    ≡ get_or (entries_json status seq es) place []
 entry_at status seq [] place e is within = absurd (omega (arith, within))
 entry_at status seq (x ∷ es) zero e is within =
     let here : seq + 0 ≡ seq = omega arith in
@@ -43,7 +47,8 @@ entry_at status seq (x ∷ es) (suc place) e is within =
     ∙ entry_at (status_with status seq x) (seq + 1) es place e is (omega (arith, within))
 
 -- as many as there are entries
-pub so_many_entries : (status : RegisterStatus) (seq : ℕ) (es : List Entry) → length (entries_json status seq es) ≡ length es
+pub so_many_entries : (status : RegisterStatus) (seq : ℕ) (es : List Entry) →
+    length (entries_json status seq es) ≡ length es
 so_many_entries status seq [] = refl
 so_many_entries status seq (x ∷ es) = ap suc (so_many_entries (status_with status seq x) (seq + 1) es)
 

@@ -28,7 +28,8 @@ pub length-column : (p : Inside) → IsSoundColumn p → length (operands p) ≡
 length-column p sound = length-zip2 operand_of p.tags.items p.values.items (omega (arith, sound.as_many))
 
 -- a place of an operand is one of a tag
-pub place_within : (p : Inside) → IsSoundColumn p → (seen : List Operand) → operands p ≡ seen → (at : ℕ) → at < length seen → at < length p.tags.items
+pub place_within : (p : Inside) → IsSoundColumn p → (seen : List Operand) → operands p ≡ seen → (at : ℕ) →
+    at < length seen → at < length p.tags.items
 place_within p sound seen is at within = omega (arith, rw (← is) at within, length-column p sound)
 
 -- the number of no producer says that the value is there
@@ -40,7 +41,8 @@ pub operand_of-tag : (tag held : ℕ) → (tag ≡ 18446744073709551615 → ⊥)
 operand_of-tag tag held some = rw (ne_eqb tag 18446744073709551615 some) refl
 
 -- an operand that has its value keeps it, and one with another tag keeps that
-unwoken : (seq value tag held : ℕ) → eqb tag seq ≡ false → woken_operand seq value (operand_of tag held) ≡ operand_of tag held
+unwoken : (seq value tag held : ℕ) → eqb tag seq ≡ false →
+    woken_operand seq value (operand_of tag held) ≡ operand_of tag held
 unwoken seq value tag held other = elim (cases_Bool (eqb tag 18446744073709551615)) [
   | inl has ↦ rw has refl
   | inr waits ↦ rw waits (rw other refl)
@@ -67,7 +69,8 @@ operands-woken seq value (t ∷ ts) (v ∷ vs) some small =
     ap₂ ◌∷◌ (operand_of-woken seq value t v some small) (operands-woken seq value ts vs some small)
 
 -- an operand that waits has another tag than that of no producer
-woken_by_none : (value tag held : ℕ) → woken_operand 18446744073709551615 value (operand_of tag held) ≡ operand_of tag held
+woken_by_none : (value tag held : ℕ) →
+    woken_operand 18446744073709551615 value (operand_of tag held) ≡ operand_of tag held
 woken_by_none value tag held = elim (cases_Bool (eqb tag 18446744073709551615)) [
   | inl has ↦ rw has refl
   | inr waits ↦ unwoken 18446744073709551615 value tag held waits
@@ -84,7 +87,8 @@ operands-unwoken value (t ∷ ts) (v ∷ vs) = ap₂ ◌∷◌ (woken_by_none va
 unwoken_all : (seq value : ℕ) (os : List Operand) →
     ((at : ℕ) → at < length os → has_value (get_or os at (Value 0)) ≡ true) → map (woken_operand seq value) os ≡ os
 unwoken_all seq value [] have = refl
-unwoken_all seq value (Value held ∷ os) have = ap (λ l. Value held ∷ l) (unwoken_all seq value os (λ at lt. have (suc at) (omega arith)))
+unwoken_all seq value (Value held ∷ os) have =
+    ap (λ l. Value held ∷ l) (unwoken_all seq value os (λ at lt. have (suc at) (omega arith)))
 unwoken_all seq value (Tag tag ∷ os) have = absurd (true≢false (sym (have 0 (omega arith))))
 
 -- a bit that is not set shows a value that is there
@@ -106,8 +110,10 @@ has_value-operand_of tag held = elim (cases_Bool (eqb tag 18446744073709551615))
 ]
 
 -- an operand that has its value has the lower 32 bits of the number held for it
-pub operand_of-has_value : (tag held : ℕ) → has_value (operand_of tag held) ≡ true → operand_of tag held ≡ Value (held % 4294967296)
-operand_of-has_value tag held has = operand_of-value tag held (eqb-true tag 18446744073709551615 (sym (has_value-operand_of tag held) ∙ has))
+pub operand_of-has_value : (tag held : ℕ) → has_value (operand_of tag held) ≡ true →
+    operand_of tag held ≡ Value (held % 4294967296)
+operand_of-has_value tag held has =
+    operand_of-value tag held (eqb-true tag 18446744073709551615 (sym (has_value-operand_of tag held) ∙ has))
 
 -- the mask after one operand is written
 pub IsWaitMask-set : (os : List Operand) (place tag held before after : ℕ) → length os ≤ 64 → place < length os →
@@ -161,14 +167,22 @@ module _ {X : Type 0} (f : X → X) (start : ℕ) (xs : List X) (room : start + 
       let back : start + (i - start) ≡ i = omega arith in
       get_or-append_right (take start xs) _ start i d front le
       ∙ get_or_append_left (map f (take 8 (drop start xs))) _ d (i - start) (omega (arith, eight))
-      ∙ get_or-map f (take 8 (drop start xs)) (i - start) d d (omega (arith, eight, length-map (take 8 (drop start xs)) f))
-      ∙ ap f (get_or-take 8 (drop start xs) (i - start) d (omega arith) ∙ get_or-drop start xs (i - start) d ∙ ap (λ n. get_or xs n d) back)
+      ∙ get_or-map f (take 8 (drop start xs)) (i - start) d d
+      (omega (arith, eight, length-map (take 8 (drop start xs)) f))
+      ∙ ap f (get_or-take 8 (drop start xs) (i - start) d (omega arith) ∙ get_or-drop start xs (i - start) d
+      ∙ ap (λ n. get_or xs n d) back)
 
   -- as many items as before
   pub length-in_eight : length (in_eight start (map f) xs) ≡ length xs
   length-in_eight =
       length-append (take start xs) _
-      ∙ omega (arith, front, length-append (map f (take 8 (drop start xs))) (drop (start + 8) xs), eight, length-drop (start + 8) xs)
+      ∙ omega (
+        arith,
+        front,
+        length-append (map f (take 8 (drop start xs))) (drop (start + 8) xs),
+        eight,
+        length-drop (start + 8) xs,
+      )
 
 -- a change that changes nothing
 pub in_eight-same : {X : Type 0} (start : ℕ) (change : List X → List X) (xs : List X) →
@@ -207,7 +221,9 @@ module _ (ms : List Bool) (start : ℕ) (eight : length ms ≡ 8) (room : start 
   pub bit_at-cleared : (mask i : ℕ) → i < 64 →
       bit_at (bit_and mask (18446744073709551615 - mask_l ms * 2 ^ start % 18446744073709551616)) i
       ≡ min (bit_at mask i) (1 - bit_at (mask_l ms * 2 ^ start) i)
-  bit_at-cleared mask i lt = rw moved_whole (bit_at_and mask _ i ∙ ap (min (bit_at mask i)) (bit_at_not w64 (mask_l ms * 2 ^ start) i moved_fits lt))
+  bit_at-cleared mask i lt =
+      rw moved_whole (bit_at_and mask _ i
+      ∙ ap (min (bit_at mask i)) (bit_at_not w64 (mask_l ms * 2 ^ start) i moved_fits lt))
 
   pub not_cleared : (mask i : ℕ) → i < 64 → bit_at (mask_l ms * 2 ^ start) i ≡ 0 →
       bit_at (bit_and mask (18446744073709551615 - mask_l ms * 2 ^ start % 18446744073709551616)) i ≡ bit_at mask i
@@ -274,9 +290,11 @@ module _ (seq value start waiting : ℕ) (tags values : List ℕ) (some : eqb se
     | inl same ↦
         let set : bit_at (mask_l equals * 2 ^ start) at ≡ 1 =
         moved_inside equals start eight_lanes (omega arith) at le ∙ ap (λ b. cond b 1 0) (lane at le le8 ∙ same) in
-        let gone : bit_at after at ≡ 0 = bit_at-cleared equals start eight_lanes (omega arith) waiting at (omega arith) ∙ omega (arith, set) in
+        let gone : bit_at after at ≡ 0 = bit_at-cleared equals start eight_lanes (omega arith) waiting at (omega arith)
+        ∙ omega (arith, set) in
         let has = has_value-woken seq value (get_or tags at 0) (get_or values at 0) some small same in
-        gone ∙ ap (λ b. cond b 0 1) (sym (ap has_value (changed ∙ ap (woken_operand seq value) (operand_at at lt)) ∙ has))
+        gone ∙ ap (λ b. cond b 0 1)
+        (sym (ap has_value (changed ∙ ap (woken_operand seq value) (operand_at at lt)) ∙ has))
     | inr other ↦
         let clear : bit_at (mask_l equals * 2 ^ start) at ≡ 0 =
         moved_inside equals start eight_lanes (omega arith) at le ∙ ap (λ b. cond b 1 0) (lane at le le8 ∙ other) in
@@ -352,13 +370,15 @@ cleared-inside mask start place room le lt =
 pub cleared-below : (mask start place : ℕ) → start + 8 ≤ 64 → place < start →
     bit_at (bit_and mask (18446744073709551615 - 255 * 2 ^ start % 18446744073709551616)) place ≡ bit_at mask place
 cleared-below mask start place room lt =
-    not_cleared (replicate 8 true) start refl room mask place (omega arith) (moved_below (replicate 8 true) start refl room place lt)
+    not_cleared (replicate 8 true) start refl room mask place (omega arith)
+    (moved_below (replicate 8 true) start refl room place lt)
 
 -- a bit above those of the eight places stays
 pub cleared-above : (mask start place : ℕ) → start + 8 ≤ 64 → start + 8 ≤ place → place < 64 →
     bit_at (bit_and mask (18446744073709551615 - 255 * 2 ^ start % 18446744073709551616)) place ≡ bit_at mask place
 cleared-above mask start place room le lt =
-    not_cleared (replicate 8 true) start refl room mask place lt (moved_above (replicate 8 true) start refl room place le)
+    not_cleared (replicate 8 true) start refl room mask place lt
+    (moved_above (replicate 8 true) start refl room place le)
 
 -- of two masks no bit is set in a place where both operands have their values
 pub both_ready : (first second place : ℕ) (a b : Bool) → bit_at first place ≡ cond a 0 1 →

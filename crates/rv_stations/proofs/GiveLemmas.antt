@@ -14,7 +14,8 @@ use Rattle.std.proofs.lemmas.Simd.{bitmask_splat, zip2_splat, bit_mask_l, mask_l
 use Rattle.rv_stations.specs.Column.{OtherBitsStay, woken_tag, woken_value}
 
 -- the lowest of eight marked lanes
-pub lowest_lane : (left : ℕ) → 0 < left → left < 2 ^ 8 → (trailing_zeros w64 left < 8) × (bit_at left (trailing_zeros w64 left) ≡ 1)
+pub lowest_lane : (left : ℕ) → 0 < left → left < 2 ^ 8 → (trailing_zeros w64 left < 8)
+    × (bit_at left (trailing_zeros w64 left) ≡ 1)
 lowest_lane left some few =
     let lowest = bit_at-trailing_zeros w64 left some (omega (arith, few)) in
     elim (cases_lt (trailing_zeros w64 left) 8) [
@@ -37,11 +38,13 @@ no_like seq tags i lt none = elim (cases_Bool (eqb (get_or tags i 0) seq)) [
 ]
 
 -- where none is set, no tag is the number
-pub none_like : (seq : ℕ) (tags : List ℕ) → mask_l (map (λ t. eqb (t % 2 ^ 32) (seq % 2 ^ 32)) tags) ≡ 0 → mask_l (map (λ t. eqb t seq) tags) ≡ 0
+pub none_like : (seq : ℕ) (tags : List ℕ) → mask_l (map (λ t. eqb (t % 2 ^ 32) (seq % 2 ^ 32)) tags) ≡ 0 →
+    mask_l (map (λ t. eqb t seq) tags) ≡ 0
 none_like seq [] none = refl
 none_like seq (t ∷ ts) none =
     let here : eqb t seq ≡ false = no_like seq (t ∷ ts) 0 (omega arith) (ap (λ n. bit_at n 0) none ∙ bit_at-zero 0) in
-    let twice : cond (eqb (t % 2 ^ 32) (seq % 2 ^ 32)) 1 0 + 2 * mask_l (map (λ u. eqb (u % 2 ^ 32) (seq % 2 ^ 32)) ts) ≡ 0 = none in
+    let twice : cond (eqb (t % 2 ^ 32) (seq % 2 ^ 32)) 1 0 + 2
+    * mask_l (map (λ u. eqb (u % 2 ^ 32) (seq % 2 ^ 32)) ts) ≡ 0 = none in
     let rest : mask_l (map (λ u. eqb (u % 2 ^ 32) (seq % 2 ^ 32)) ts) ≡ 0 = omega (arith, twice) in
     rw (here, none_like seq ts rest) refl
 
@@ -50,7 +53,8 @@ like_mask : (seq : ℕ) (tags : List ℕ) →
     mask_l (map (λ x. eqb x (bit_and seq 4294967295)) (map (λ (x : ℕ). x) (map (λ t. bit_and t 4294967295) tags)))
     ≡ mask_l (map (λ t. eqb (t % 2 ^ 32) (seq % 2 ^ 32)) tags)
 like_mask seq [] = refl
-like_mask seq (t ∷ ts) = ap₂ (λ (b : Bool) (n : ℕ). cond b 1 0 + 2 * n) (ap₂ eqb (and_mask t 32) (and_mask seq 32)) (like_mask seq ts)
+like_mask seq (t ∷ ts) =
+    ap₂ (λ (b : Bool) (n : ℕ). cond b 1 0 + 2 * n) (ap₂ eqb (and_mask t 32) (and_mask seq 32)) (like_mask seq ts)
 
 -- the mask of a comparison lane by lane is that of the tags whose lower 32 bits are the number's
 pub like_lanes : (seq : ℕ) (tags : List ℕ) → length tags ≡ 8 →
@@ -62,7 +66,8 @@ pub like_lanes : (seq : ℕ) (tags : List ℕ) → length tags ≡ 8 →
 like_lanes seq tags long =
     let whole : take 8 tags ≡ tags = take_all 8 tags (omega arith) in
     let lower : List ℕ = map (λ t. bit_and t 4294967295) tags in
-    let many : length (map (λ (x : ℕ). x) lower) ≡ 8 = length-map lower (λ (x : ℕ). x) ∙ length-map tags (λ t. bit_and t 4294967295) ∙ long in
+    let many : length (map (λ (x : ℕ). x) lower) ≡ 8 = length-map lower (λ (x : ℕ). x)
+    ∙ length-map tags (λ t. bit_and t 4294967295) ∙ long in
     rw whole
     (ap (λ xs. mask_l
     (map (top 31)
@@ -77,12 +82,14 @@ module _ (seq value : ℕ) (tags values : List ℕ) where
     pub rest_tags : (i : ℕ) → i < 8 → bit_at left i ≡ 1 → get_or now_tags i 0 ≡ get_or tags i 0
     pub rest_values : (i : ℕ) → i < 8 → bit_at left i ≡ 1 → get_or now_values i 0 ≡ get_or values i 0
     pub now_woken : (i : ℕ) → i < 8 → bit_at left i ≡ 0 → get_or now_tags i 0 ≡ woken_tag seq (get_or tags i 0)
-    pub now_given : (i : ℕ) → i < 8 → bit_at left i ≡ 0 → get_or now_values i 0 ≡ woken_value seq value (get_or tags i 0) (get_or values i 0)
+    pub now_given : (i : ℕ) → i < 8 → bit_at left i ≡ 0 →
+        get_or now_values i 0 ≡ woken_value seq value (get_or tags i 0) (get_or values i 0)
     pub bits : (i : ℕ) → i < 8 → bit_at left i ≡ 0 → bit_at woken i ≡ cond (eqb (get_or tags i 0) seq) 1 0
     pub above : (i : ℕ) → 8 ≤ i → i < 64 → bit_at woken i ≡ 0
 
   -- before any lane is woken, all that are marked are left, where no other has the number
-  pub Giving-start : (like : ℕ) → ((i : ℕ) → i < 8 → bit_at like i ≡ 0 → eqb (get_or tags i 0) seq ≡ false) → Giving like 0 tags values
+  pub Giving-start : (like : ℕ) → ((i : ℕ) → i < 8 → bit_at like i ≡ 0 → eqb (get_or tags i 0) seq ≡ false) →
+      Giving like 0 tags values
   Giving-start like others = record {
     rest_tags = λ i lt set. refl;
     rest_values = λ i lt set. refl;
@@ -105,15 +112,18 @@ module _ (seq value : ℕ) (tags values : List ℕ) where
       record {
         rest_tags = λ i lt still. elim (cases_eq i lane) [
           | inl same ↦ let gone : bit_at next i ≡ 0 = rw same clear in absurd (omega (arith, gone, still))
-          | inr other ↦ get_or-set_other now_tags lane i _ 0 other ∙ g.rest_tags i lt (sym (stay i (omega arith) other) ∙ still)
+          | inr other ↦ get_or-set_other now_tags lane i _ 0 other
+              ∙ g.rest_tags i lt (sym (stay i (omega arith) other) ∙ still)
         ];
         rest_values = λ i lt still. elim (cases_eq i lane) [
           | inl same ↦ let gone : bit_at next i ≡ 0 = rw same clear in absurd (omega (arith, gone, still))
-          | inr other ↦ get_or-set_other now_values lane i _ 0 other ∙ g.rest_values i lt (sym (stay i (omega arith) other) ∙ still)
+          | inr other ↦ get_or-set_other now_values lane i _ 0 other
+              ∙ g.rest_values i lt (sym (stay i (omega arith) other) ∙ still)
         ];
         now_woken = λ i lt none. elim (cases_eq i lane) [
           | inl same ↦ rw same (get_or-set_same now_tags lane _ 0 (omega arith) ∙ ap (woken_tag seq) tag)
-          | inr other ↦ get_or-set_other now_tags lane i _ 0 other ∙ g.now_woken i lt (sym (stay i (omega arith) other) ∙ none)
+          | inr other ↦ get_or-set_other now_tags lane i _ 0 other
+              ∙ g.now_woken i lt (sym (stay i (omega arith) other) ∙ none)
         ];
         now_given = λ i lt none. elim (cases_eq i lane) [
           | inl same ↦
@@ -121,7 +131,8 @@ module _ (seq value : ℕ) (tags values : List ℕ) where
               (get_or-set_same now_values lane _ 0 (omega arith)
               ∙ ap (λ t. woken_value seq value t (get_or now_values lane 0)) tag
               ∙ ap (woken_value seq value (get_or tags lane 0)) held)
-          | inr other ↦ get_or-set_other now_values lane i _ 0 other ∙ g.now_given i lt (sym (stay i (omega arith) other) ∙ none)
+          | inr other ↦ get_or-set_other now_values lane i _ 0 other
+              ∙ g.now_given i lt (sym (stay i (omega arith) other) ∙ none)
         ];
         bits = λ i lt none. elim (cases_eq i lane) [
           | inl same ↦ rw same (bit ∙ ap (λ t. cond (eqb t seq) 1 0) tag)
@@ -135,8 +146,10 @@ module _ (seq value : ℕ) (tags values : List ℕ) where
     -- with no lane left, each tag that was the number is gone
     pub given-tags : now_tags ≡ map (woken_tag seq) tags
     given-tags =
-        same_number_lists now_tags (map (woken_tag seq) tags) (omega (arith, long, many, length-map tags (woken_tag seq)))
-        (λ i lt. g.now_woken i (omega arith) (bit_at-zero i) ∙ sym (get_or-map (woken_tag seq) tags i 0 0 (omega arith)))
+        same_number_lists now_tags (map (woken_tag seq) tags)
+        (omega (arith, long, many, length-map tags (woken_tag seq)))
+        (λ i lt. g.now_woken i (omega arith) (bit_at-zero i)
+        ∙ sym (get_or-map (woken_tag seq) tags i 0 0 (omega arith)))
 
     -- with no lane left, each tag that was the number has its value
     pub given-values : now_values ≡ zip2 (woken_value seq value) tags values
@@ -159,6 +172,7 @@ module _ (seq value : ℕ) (tags values : List ℕ) where
         (λ i lt. elim (cases_lt i 8) [
           | inl low ↦
               g.bits i low (bit_at-zero i)
-              ∙ sym (bit_mask_l (map (λ t. eqb t seq) tags) i ∙ ap (λ b. cond b 1 0) (get_or-map (λ t. eqb t seq) tags i 0 false (omega arith)))
+              ∙ sym (bit_mask_l (map (λ t. eqb t seq) tags) i
+              ∙ ap (λ b. cond b 1 0) (get_or-map (λ t. eqb t seq) tags i 0 false (omega arith)))
           | inr high ↦ g.above i high lt ∙ sym (bit_at_above (mask_l (map (λ t. eqb t seq) tags)) 8 i small high)
         ])

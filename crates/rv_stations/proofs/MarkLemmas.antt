@@ -59,7 +59,8 @@ marks-shorter P zero m ks order marks = All-nil P
 marks-shorter P (suc n) zero ks order marks = absurd (omega arith)
 marks-shorter P (suc n) (suc m) [] order marks = All-nil P
 marks-shorter P (suc n) (suc m) (k ∷ ks) order marks =
-    All-cons P k (take n ks) (All-head P k (take m ks) marks) (marks-shorter P n m ks (omega arith) (All-tail P k (take m ks) marks))
+    All-cons P k (take n ks) (All-head P k (take m ks) marks)
+    (marks-shorter P n m ks (omega arith) (All-tail P k (take m ks) marks))
 
 -- no two of the first n places are the same, where no two of all are
 pub AreApart-take : (n : ℕ) (ks : List ℕ) → n ≤ length ks → AreApart ks → AreApart (take n ks)
@@ -109,7 +110,8 @@ module _ (p : Inside) (sound : IsSoundPool p) (at : ℕ) (low : at < p.count) wh
   asked_places loads_wait = cond loads_wait (bit_and p.held p.others) p.held
 
   unasked_by : (loads_wait : Bool) → bit_at (asked_places loads_wait) place ≡ 0 → is_asked loads_wait w ≡ false
-  unasked_by false unset = let set : bit_at p.held place ≡ 1 = rw same at (sound.held at 0 in_front) in absurd (omega (arith, set, unset))
+  unasked_by false unset = let set : bit_at p.held place ≡ 1 = rw same at (sound.held at 0 in_front) in
+      absurd (omega (arith, set, unset))
   unasked_by true unset = elim (cases_Bool (loads w)) [
     | inl load ↦ elim (cases_Bool (is_ready w)) [
       | inl ready ↦ rw (ready, load) refl
@@ -146,13 +148,14 @@ module _ (p : Inside) (sound : IsSoundPool p) (at : ℕ) (low : at < p.count) wh
     -- an instruction whose bit is not set is not asked
     pub unasked : (loads_wait : Bool) → HoldsAsked loads_wait → bit_at mask place ≡ 0 →
         option_map (is_asked loads_wait) (slice_get (pool p).waiting at) ≡ Some false
-    unasked loads_wait kept none = ap (option_map (is_asked loads_wait)) here ∙ ap Some (elim (cases_Bool (is_ready w)) [
-      | inl ready ↦
-          let idle : bit_at (bit_or a b) place ≡ 0 =
-          sym (shr_and_one (bit_or a b) place) ∙ eqb-true _ _ (sym shown ∙ ready) in
-          unasked_by loads_wait (sym (kept place place_few idle) ∙ none)
-      | inr waits ↦ rw waits refl
-    ])
+    unasked loads_wait kept none = ap (option_map (is_asked loads_wait)) here
+        ∙ ap Some (elim (cases_Bool (is_ready w)) [
+          | inl ready ↦
+              let idle : bit_at (bit_or a b) place ≡ 0 =
+              sym (shr_and_one (bit_or a b) place) ∙ eqb-true _ _ (sym shown ∙ ready) in
+              unasked_by loads_wait (sym (kept place place_few idle) ∙ none)
+          | inr waits ↦ rw waits refl
+        ])
 
     -- one whose bit is set is asked
     pub asked : (loads_wait : Bool) → HoldsAsked loads_wait →
@@ -161,4 +164,5 @@ module _ (p : Inside) (sound : IsSoundPool p) (at : ℕ) (low : at < p.count) wh
     asked loads_wait kept cleared set =
         let idle : bit_at (bit_or a b) place ≡ 0 = cleared place place_few set in
         let ready : is_ready w ≡ true = shown ∙ eq-eqb _ _ (shr_and_one (bit_or a b) place ∙ idle) in
-        ap (option_map (is_asked loads_wait)) here ∙ ap Some (asked_by loads_wait ready (sym (kept place place_few idle) ∙ set))
+        ap (option_map (is_asked loads_wait)) here
+        ∙ ap Some (asked_by loads_wait ready (sym (kept place place_few idle) ∙ set))

@@ -17,7 +17,8 @@ module _ {A : Type 0} where
   moved-back zero (suc count) (suc last) (a ∷ b ∷ xs) x is within =
       ap (λ ys. b ∷ ys) (moved-back zero count last (b ∷ xs) x (omega arith) (omega arith))
   moved-back (suc at) count zero (a ∷ xs) x is within = absurd (omega arith)
-  moved-back (suc at) count (suc last) (a ∷ xs) x is within = ap (λ ys. a ∷ ys) (moved-back at count last xs x (omega arith) (omega arith))
+  moved-back (suc at) count (suc last) (a ∷ xs) x is within =
+      ap (λ ys. a ∷ ys) (moved-back at count last xs x (omega arith) (omega arith))
 
   -- an element inserted after the first n leaves them
   pub take-insert : (n : ℕ) (xs : List A) (x : A) → n ≤ length xs → take n (insert xs n x) ≡ take n xs
@@ -26,24 +27,28 @@ module _ {A : Type 0} where
   take-insert (suc n) (a ∷ xs) x within = ap (λ ys. a ∷ ys) (take-insert n xs x (omega arith))
 
   -- the first n once one of the first n + 1 is removed are those n + 1 without it
-  pub take-remove : (at n : ℕ) (xs : List A) → at ≤ n → at < length xs → take n (remove xs at) ≡ remove (take (suc n) xs) at
+  pub take-remove : (at n : ℕ) (xs : List A) → at ≤ n → at < length xs →
+      take n (remove xs at) ≡ remove (take (suc n) xs) at
   take-remove at n [] order within = absurd (omega arith)
   take-remove zero n (a ∷ xs) order within = refl
   take-remove (suc at) zero (a ∷ xs) order within = absurd (omega arith)
-  take-remove (suc at) (suc n) (a ∷ xs) order within = ap (λ ys. a ∷ ys) (take-remove at n xs (omega arith) (omega arith))
+  take-remove (suc at) (suc n) (a ∷ xs) order within =
+      ap (λ ys. a ∷ ys) (take-remove at n xs (omega arith) (omega arith))
 
   module _ (P : A → Type 0) where
     -- what holds of all holds with one more of which it holds
     pub All-insert : (n : ℕ) (xs : List A) (x : A) → All P xs → P x → All P (insert xs n x)
     All-insert zero xs x all holds = All-cons P x xs holds all
     All-insert (suc n) [] x all holds = All-cons P x [] holds all
-    All-insert (suc n) (a ∷ xs) x all holds = All-cons P a (insert xs n x) (All-head P a xs all) (All-insert n xs x (All-tail P a xs all) holds)
+    All-insert (suc n) (a ∷ xs) x all holds =
+        All-cons P a (insert xs n x) (All-head P a xs all) (All-insert n xs x (All-tail P a xs all) holds)
 
     -- what holds of all holds of those that a removal leaves
     pub All-remove : (at : ℕ) (xs : List A) → at < length xs → All P xs → All P (remove xs at)
     All-remove at [] within all = absurd (omega arith)
     All-remove zero (a ∷ xs) within all = All-tail P a xs all
-    All-remove (suc at) (a ∷ xs) within all = All-cons P a (remove xs at) (All-head P a xs all) (All-remove at xs (omega arith) (All-tail P a xs all))
+    All-remove (suc at) (a ∷ xs) within all =
+        All-cons P a (remove xs at) (All-head P a xs all) (All-remove at xs (omega arith) (All-tail P a xs all))
 
   module _ (R : A → A → Type 0) (flip : (x y : A) → R x y → R y x) where
     first : (x : A) (xs : List A) → AllPairs R (x ∷ xs) → All (R x) xs
@@ -53,7 +58,8 @@ module _ {A : Type 0} where
     others x xs pairs = λ i j d lt within. pairs (suc i) (suc j) d (omega arith) (omega arith)
 
     -- what is taken out of a list is related to all that stay
-    pub All-others : (at : ℕ) (xs : List A) (d : A) → at < length xs → AllPairs R xs → All (R (get_or xs at d)) (remove xs at)
+    pub All-others : (at : ℕ) (xs : List A) (d : A) → at < length xs → AllPairs R xs →
+        All (R (get_or xs at d)) (remove xs at)
     All-others at [] d within pairs = absurd (omega arith)
     All-others zero (x ∷ xs) d within pairs = first x xs pairs
     All-others (suc at) (x ∷ xs) d within pairs =

@@ -73,7 +73,8 @@ none_waits [] none = refl
 none_waits (w ∷ ws) none = absurd (omega arith)
 
 -- a place is there
-pub place_there : (p : Inside) → IsSoundPool p → (at place : ℕ) → slice_get p.places.items at ≡ Some place → place < vec_len p.seqs
+pub place_there : (p : Inside) → IsSoundPool p → (at place : ℕ) → slice_get p.places.items at ≡ Some place →
+    place < vec_len p.seqs
 place_there p sound at place is =
     let within : at < length p.places.items = slice_get_within p.places.items at place is in
     omega (arith, sound.there at 0 within, get_or_from_slice_get p.places.items at place 0 is)
@@ -95,7 +96,8 @@ slice_get-in_places ws (suc n) [] at place w low is there = cc
 slice_get-in_places ws (suc n) (k ∷ ks) zero place w low is there =
     let same : k ≡ place = cc in
     ap Some (get_or_from_slice_get ws k w some_waiting (rw same there))
-slice_get-in_places ws (suc n) (k ∷ ks) (suc at) place w low is there = slice_get-in_places ws n ks at place w (omega arith) is there
+slice_get-in_places ws (suc n) (k ∷ ks) (suc at) place w low is there =
+    slice_get-in_places ws n ks at place w (omega arith) is there
 
 -- the parts of an instruction that waits
 pub slice_get-pool : (p : Inside) (at place n : ℕ) (f : Dispatched) (x y : Operand) → at < p.count →
@@ -146,8 +148,10 @@ ready_parts p sound at place low is ready =
     let none : Dispatched = record { pc = 0; instruction = Fence } in
     let x = get_or p.first place (Value 0) in
     let y = get_or p.second place (Value 0) in
-    let at_x : slice_get p.first place ≡ Some x = slice_get-get_or p.first place (Value 0) (omega (arith, there, sound.first)) in
-    let at_y : slice_get p.second place ≡ Some y = slice_get-get_or p.second place (Value 0) (omega (arith, there, sound.second)) in
+    let at_x : slice_get p.first place ≡ Some x =
+    slice_get-get_or p.first place (Value 0) (omega (arith, there, sound.first)) in
+    let at_y : slice_get p.second place ≡ Some y =
+    slice_get-get_or p.second place (Value 0) (omega (arith, there, sound.second)) in
     let whole = slice_get-pool p at place _ _ x y low is
     (slice_get-get_or p.seqs.items place 0 (omega (arith, there)))
     (slice_get-get_or p.dispatched.items place none (omega (arith, there, sound.dispatched)))
@@ -209,17 +213,22 @@ in_places-next ws ks n place w apart is there =
     apart i n d low within (sym (get_or-take n ks i d low) ∙ equal ∙ sym (get_or_from_slice_get ks n place d is)) in
     rw (take_at_get ks n place is)
     (map-append (λ k. get_or (slice_set ws place w) k some_waiting) (take n ks) (place ∷ [])
-    ∙ ap₂ ◌++◌ (in_places-unset ws (take n ks) place w before) (ap (λ v. v ∷ []) (get_or-set_same ws place w some_waiting there)))
+    ∙ ap₂ ◌++◌ (in_places-unset ws (take n ks) place w before)
+    (ap (λ v. v ∷ []) (get_or-set_same ws place w some_waiting there)))
 
 -- the instructions in all places but one are all but the one in it
-pub in_places-remove : (ws : List Waiting) (ks : List ℕ) (at : ℕ) → at < length ks → in_places ws (remove ks at) ≡ remove (in_places ws ks) at
+pub in_places-remove : (ws : List Waiting) (ks : List ℕ) (at : ℕ) → at < length ks → in_places ws (remove ks at)
+    ≡ remove (in_places ws ks) at
 in_places-remove ws [] at within = absurd (omega arith)
 in_places-remove ws (k ∷ ks) zero within = refl
-in_places-remove ws (k ∷ ks) (suc at) within = ap (λ vs. get_or ws k some_waiting ∷ vs) (in_places-remove ws ks at (omega arith))
+in_places-remove ws (k ∷ ks) (suc at) within =
+    ap (λ vs. get_or ws k some_waiting ∷ vs) (in_places-remove ws ks at (omega arith))
 
 -- the instructions in the first n places are the first n of those in more places
-pub in_places-take : (ws : List Waiting) (ks : List ℕ) (n m : ℕ) → n ≤ m → in_places ws (take n ks) ≡ take n (in_places ws (take m ks))
+pub in_places-take : (ws : List Waiting) (ks : List ℕ) (n m : ℕ) → n ≤ m →
+    in_places ws (take n ks) ≡ take n (in_places ws (take m ks))
 in_places-take ws ks zero m order = refl
 in_places-take ws ks (suc n) zero order = absurd (omega arith)
 in_places-take ws [] (suc n) (suc m) order = refl
-in_places-take ws (k ∷ ks) (suc n) (suc m) order = ap (λ vs. get_or ws k some_waiting ∷ vs) (in_places-take ws ks n m (omega arith))
+in_places-take ws (k ∷ ks) (suc n) (suc m) order =
+    ap (λ vs. get_or ws k some_waiting ∷ vs) (in_places-take ws ks n m (omega arith))

@@ -44,7 +44,8 @@ pub record Searching (test : Waiting → Bool) (ws : List Waiting) (at : ℕ) : 
   pub passed : ArePassedBy test at ws
 
 -- where a search begins
-pub Searching-from : (test : Waiting → Bool) (at : ℕ) (ws : List Waiting) → ArePassedBy test at ws → Searching test ws at
+pub Searching-from : (test : Waiting → Bool) (at : ℕ) (ws : List Waiting) → ArePassedBy test at ws →
+    Searching test ws at
 Searching-from test zero ws passed = record { same_oldest = refl; same_others = refl; passed = passed }
 Searching-from test (suc at) [] passed = record { same_oldest = refl; same_others = refl; passed = passed }
 Searching-from test (suc at) (w ∷ ws) passed = elim (cases_Bool (is_ready w && test w)) [
@@ -73,7 +74,8 @@ Searching-pass test ws at w is fails s =
     let here = drop_at_get ws at w is in
     let passed = take_at_get ws at w is in
     let oldest : oldest_ready test (drop at ws) ≡ oldest_ready test (drop (at + 1) ws) = rw (here, fails) refl in
-    let others : without_oldest_ready test (drop at ws) ≡ w ∷ without_oldest_ready test (drop (at + 1) ws) = rw (here, fails) refl in
+    let others : without_oldest_ready test (drop at ws) ≡ w ∷ without_oldest_ready test (drop (at + 1) ws) =
+    rw (here, fails) refl in
     record {
       same_oldest = sym oldest ∙ s.same_oldest;
       same_others = rw (passed, append_assoc) (ap (λ us. take at ws ++ us) (sym others) ∙ s.same_others);
@@ -88,7 +90,8 @@ Searching-found test ws at w is passes s =
     let here = drop_at_get ws at w is in
     let next : at + 1 ≡ suc at = omega arith in
     let oldest : oldest_ready test (drop at ws) ≡ Some w = rw (here, passes) refl in
-    let others : without_oldest_ready test (drop at ws) ≡ drop (suc at) ws = rw (here, passes) (ap (λ n. drop n ws) next) in
+    let others : without_oldest_ready test (drop at ws) ≡ drop (suc at) ws =
+    rw (here, passes) (ap (λ n. drop n ws) next) in
     (sym s.same_oldest ∙ oldest ∙ sym is, sym s.same_others ∙ ap (λ us. take at ws ++ us) others)
 
 -- from a place on a test fails each load
@@ -116,7 +119,8 @@ ready-asked loads_wait (Some w) shown =
     ap Some (and_parts (is_ready w) (not (loads_wait && loads w)) asked).0
 
 -- and so from a later one
-pub LoadsFail-later : (test : Waiting → Bool) (ws : List Waiting) (at : ℕ) → LoadsFail test ws at → LoadsFail test ws (at + 1)
+pub LoadsFail-later : (test : Waiting → Bool) (ws : List Waiting) (at : ℕ) → LoadsFail test ws at →
+    LoadsFail test ws (at + 1)
 LoadsFail-later test ws at fail = λ k w after is load. fail k w (omega (arith, after)) is load
 
 -- those after a load that waits with all that are younger
@@ -130,7 +134,8 @@ LoadsFail-after test ws place w in_order is verdict = λ k other after there loa
     verdict.1 other (rw (here, later) at rising) load
 
 -- from a later place on too
-pub LoadsFail-from : (test : Waiting → Bool) (ws : List Waiting) (at to : ℕ) → at ≤ to → LoadsFail test ws at → LoadsFail test ws to
+pub LoadsFail-from : (test : Waiting → Bool) (ws : List Waiting) (at to : ℕ) → at ≤ to → LoadsFail test ws at →
+    LoadsFail test ws to
 LoadsFail-from test ws at to later fail = λ k w after is load. fail k w (omega (arith, later, after)) is load
 
 -- each of the instructions that are passed by is not ready, or fails
@@ -159,19 +164,21 @@ passed_from test (suc n) (w ∷ ws) fail =
 pub passed_unasked : (test : Waiting → Bool) (ws : List Waiting) (at to : ℕ) (loads_wait : Bool) →
     ((k : ℕ) → at ≤ k → k < to → option_map (is_asked loads_wait) (slice_get ws k) ≡ Some false) →
     (loads_wait ≡ true → LoadsFail test ws at) → ArePassedBy test at ws → ArePassedBy test to ws
-passed_unasked test ws at to loads_wait unasked fail passed = passed_from test to ws (λ k w low is. elim (cases_lt k at) [
-  | inl before ↦ passed_at test at ws passed k w before is
-  | inr after ↦
-      let shown : Some (is_asked loads_wait w) ≡ Some false =
-      sym (ap (option_map (is_asked loads_wait)) is) ∙ unasked k after low in
-      let asked : is_asked loads_wait w ≡ false = cc shown in
-      is_passed_by test ws k loads_wait w (λ wait. LoadsFail-from test ws at k after (fail wait)) is asked
-])
+passed_unasked test ws at to loads_wait unasked fail passed =
+    passed_from test to ws (λ k w low is. elim (cases_lt k at) [
+      | inl before ↦ passed_at test at ws passed k w before is
+      | inr after ↦
+          let shown : Some (is_asked loads_wait w) ≡ Some false =
+          sym (ap (option_map (is_asked loads_wait)) is) ∙ unasked k after low in
+          let asked : is_asked loads_wait w ≡ false = cc shown in
+          is_passed_by test ws k loads_wait w (λ wait. LoadsFail-from test ws at k after (fail wait)) is asked
+    ])
 
 -- one more is passed by
 pub passed_next : (test : Waiting → Bool) (ws : List Waiting) (at : ℕ) (w : Waiting) → slice_get ws at ≡ Some w →
     (is_ready w && test w) ≡ false → ArePassedBy test at ws → ArePassedBy test (at + 1) ws
-passed_next test ws at w is fails passed = (Searching-pass test ws at w is fails (Searching-from test at ws passed)).passed
+passed_next test ws at w is fails passed =
+    (Searching-pass test ws at w is fails (Searching-from test at ws passed)).passed
 
 -- where all are passed by, none is found
 pub passed_whole : (test : Waiting → Bool) (at : ℕ) (ws : List Waiting) → ArePassedBy test at ws → length ws ≤ at →

@@ -5,7 +5,8 @@ use Rattle.std.specs.Simd.Lanes.{zip2}
 
 module _ {X Y Z : Type 0} (f : X → Y → Z) where
   -- one list after another
-  pub zip2-append : (xs xs' : List X) (ys ys' : List Y) → length xs ≡ length ys → zip2 f (xs ++ xs') (ys ++ ys') ≡ zip2 f xs ys ++ zip2 f xs' ys'
+  pub zip2-append : (xs xs' : List X) (ys ys' : List Y) → length xs ≡ length ys → zip2 f (xs ++ xs') (ys ++ ys')
+      ≡ zip2 f xs ys ++ zip2 f xs' ys'
   zip2-append [] xs' [] ys' long = refl
   zip2-append [] xs' (y ∷ ys) ys' long = absurd (omega arith)
   zip2-append (x ∷ xs) xs' [] ys' long = absurd (omega arith)
@@ -19,7 +20,8 @@ module _ {X Y Z : Type 0} (f : X → Y → Z) where
   zip2-take (suc n) (x ∷ xs) (y ∷ ys) = ap (λ zs. f x y ∷ zs) (zip2-take n xs ys)
 
   -- what follows the first n of both lists is joined to what follows the first n
-  pub zip2-drop : (n : ℕ) (xs : List X) (ys : List Y) → length xs ≡ length ys → zip2 f (drop n xs) (drop n ys) ≡ drop n (zip2 f xs ys)
+  pub zip2-drop : (n : ℕ) (xs : List X) (ys : List Y) → length xs ≡ length ys → zip2 f (drop n xs) (drop n ys)
+      ≡ drop n (zip2 f xs ys)
   zip2-drop zero xs ys long = refl
   zip2-drop (suc n) [] ys long = refl
   zip2-drop (suc n) (x ∷ xs) [] long = absurd (omega arith)
@@ -31,7 +33,8 @@ module _ {X Y Z : Type 0} (f : X → Y → Z) where
   zip2-set i [] ys x y within_xs within_ys = absurd (omega arith)
   zip2-set i (a ∷ as') [] x y within_xs within_ys = absurd (omega arith)
   zip2-set zero (a ∷ as') (b ∷ bs) x y within_xs within_ys = refl
-  zip2-set (suc i) (a ∷ as') (b ∷ bs) x y within_xs within_ys = ap (λ zs. f a b ∷ zs) (zip2-set i as' bs x y (omega arith) (omega arith))
+  zip2-set (suc i) (a ∷ as') (b ∷ bs) x y within_xs within_ys =
+      ap (λ zs. f a b ∷ zs) (zip2-set i as' bs x y (omega arith) (omega arith))
 
   -- copies of two elements are joined to copies of one
   pub zip2-replicate : (n : ℕ) (x : X) (y : Y) → zip2 f (replicate n x) (replicate n y) ≡ replicate n (f x y)

@@ -38,7 +38,8 @@ module _ (seq : ℕ) (news : StoreState) where
   map-answered_one false s ss zero e at h x is on =
       let above : seq ≤ s.seq = grind (arith, nat_tests) in
       let same : s ≡ x = cc in
-      rw (map-answered_above s.seq ss above (IsInOrder-head (λ t. t.seq) s ss h)) (ap (λ t. answered seq news t ∷ ss) same)
+      rw (map-answered_above s.seq ss above (IsInOrder-head (λ t. t.seq) s ss h))
+      (ap (λ t. answered seq news t ∷ ss) same)
   map-answered_one false s ss (suc j) e at h x is on = absurd (omega arith)
 
   -- of stores in order, a broadcast changes no other than the first that is not below its number
@@ -47,7 +48,8 @@ module _ (seq : ℕ) (news : StoreState) where
       map (answered seq news) ss ≡ slice_set ss i (answered seq news x)
   map-answered [] i x at h is = absurd (cc)
   map-answered (s ∷ ss) i x at h is =
-      map-answered_one (nat_lt s.seq seq) s ss i refl at h x is (λ j at' is'. map-answered ss j x at' (IsInOrder-tail (λ t. t.seq) s ss h) is')
+      map-answered_one (nat_lt s.seq seq) s ss i refl at h x is
+      (λ j at' is'. map-answered ss j x at' (IsInOrder-tail (λ t. t.seq) s ss h) is')
 
   map-answered_none_one : (b : Bool) (s : Store) (ss : List Store) (i : ℕ) → nat_lt s.seq seq ≡ b →
       i ≡ cond b (1 + prefix_len (λ t. nat_lt t.seq seq) ss) 0 → slice_get (s ∷ ss) i ≡ None →
@@ -69,16 +71,20 @@ module _ (seq : ℕ) (news : StoreState) where
 
   -- a broadcast leaves the number of a store
   pub seq-answered : (s : Store) → (answered seq news s).seq ≡ s.seq
-  seq-answered s = elim (nat_eq s.seq seq) as (λ b. (cond b (record s { state = told news s.state }) s).seq ≡ s.seq) [ true ↦ refl | false ↦ refl ]
+  seq-answered s = elim (nat_eq s.seq seq) as (λ b. (cond b (record s { state = told news s.state }) s).seq ≡ s.seq)
+      [ true ↦ refl | false ↦ refl ]
 
-  committed-told : is_committed_state news ≡ false → (state : StoreState) → is_committed_state (told news state) ≡ is_committed_state state
+  committed-told : is_committed_state news ≡ false → (state : StoreState) → is_committed_state (told news state)
+      ≡ is_committed_state state
   committed-told h Waiting = h
   committed-told h Faulted = refl
   committed-told h (Filled access phase) = refl
 
-  pub committed-answered : is_committed_state news ≡ false → (s : Store) → is_committed (answered seq news s) ≡ is_committed s
+  pub committed-answered : is_committed_state news ≡ false → (s : Store) →
+      is_committed (answered seq news s) ≡ is_committed s
   committed-answered h s =
-      elim (nat_eq s.seq seq) as (λ b. is_committed (cond b (record s { state = told news s.state }) s) ≡ is_committed s)
+      elim (nat_eq s.seq seq) as
+      (λ b. is_committed (cond b (record s { state = told news s.state }) s) ≡ is_committed s)
       [ true ↦ committed-told h s.state | false ↦ refl ]
 
   -- a change that the test does not see

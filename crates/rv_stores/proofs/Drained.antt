@@ -14,7 +14,8 @@ abbrev pub draining_store : Store → Store
 draining_store s = record s { state = draining s.state }
 
 -- the start of a drain replaces the store at the first place by the draining one
-pub with_oldest_draining-set : (ss : List Store) (x : Store) → slice_get ss 0 ≡ Some x → with_oldest_draining ss ≡ slice_set ss 0 (draining_store x)
+pub with_oldest_draining-set : (ss : List Store) (x : Store) → slice_get ss 0 ≡ Some x →
+    with_oldest_draining ss ≡ slice_set ss 0 (draining_store x)
 with_oldest_draining-set [] x at = absurd (cc)
 with_oldest_draining-set (s ∷ ss) x at = let same : s ≡ x = cc in ap (λ t. draining_store t ∷ ss) same
 
@@ -24,7 +25,8 @@ with_oldest_draining-same [] at = refl
 with_oldest_draining-same (s ∷ ss) at = absurd (cc)
 
 -- the start of a drain leaves the numbers in order
-pub IsInOrder-draining : (ss : List Store) → IsInOrder (λ s. s.seq) ss → IsInOrder (λ s. s.seq) (with_oldest_draining ss)
+pub IsInOrder-draining : (ss : List Store) → IsInOrder (λ s. s.seq) ss →
+    IsInOrder (λ s. s.seq) (with_oldest_draining ss)
 IsInOrder-draining [] h = h
 IsInOrder-draining (s ∷ ss) h =
     let seq : Store → ℕ = λ t. t.seq in
@@ -36,8 +38,10 @@ committed-draining Faulted h = h
 committed-draining (Filled access phase) h = refl
 
 -- the start of a drain leaves the committed stores first
-pub ComeFirst-draining : (ss : List Store) → ComeFirst is_committed ss → ComeFirst is_committed (with_oldest_draining ss)
+pub ComeFirst-draining : (ss : List Store) → ComeFirst is_committed ss →
+    ComeFirst is_committed (with_oldest_draining ss)
 ComeFirst-draining [] h = h
 ComeFirst-draining (s ∷ ss) h =
     AllPairs-cons (λ x y. is_committed y ≡ true → is_committed x ≡ true) (draining_store s) ss
-    (λ k d lt passes. committed-draining s.state (h 0 (suc k) d (omega arith) (omega arith) passes)) (ComeFirst-tail is_committed s ss h)
+    (λ k d lt passes. committed-draining s.state (h 0 (suc k) d (omega arith) (omega arith) passes))
+    (ComeFirst-tail is_committed s ss h)

@@ -25,7 +25,8 @@ fold-laid_from place (s ∷ ss) found =
     sym (option_or_assoc (youngest_byte place ss) (byte_at place s) found)
 
 -- at one place, the stores laid over one another leave the byte of the youngest that has one
-pub fold-youngest_byte : (place : ℕ) (ss : List Store) → fold (λ found s. option_or (byte_at place s) found) None ss ≡ youngest_byte place ss
+pub fold-youngest_byte : (place : ℕ) (ss : List Store) → fold (λ found s. option_or (byte_at place s) found) None ss
+    ≡ youngest_byte place ss
 fold-youngest_byte place ss = fold-laid_from place ss None ∙ option_or-none (youngest_byte place ss)
 
 -- the stores of two lists
@@ -58,7 +59,8 @@ module _ (address count : ℕ) where
   over_byte-laid s ss found offset =
       over_byte-cons (nat_lt offset count) (youngest_byte (address + offset) ss) (byte_at (address + offset) s) found
 
-  four : {a b c d a' b' c' d' : Option ℕ} → a ≡ a' → b ≡ b' → c ≡ c' → d ≡ d' → a ∷ b ∷ c ∷ d ∷ [] ≡ a' ∷ b' ∷ c' ∷ d' ∷ []
+  four : {a b c d a' b' c' d' : Option ℕ} → a ≡ a' → b ≡ b' → c ≡ c' → d ≡ d' →
+      a ∷ b ∷ c ∷ d ∷ [] ≡ a' ∷ b' ∷ c' ∷ d' ∷ []
   four e f g h = λ i. e i ∷ f i ∷ g i ∷ h i ∷ []
 
   fold-over : (ss : List Store) (a b c d : Option ℕ) →
@@ -77,5 +79,7 @@ module _ (address count : ℕ) where
   pub fold-laid_over : (ss : List Store) →
       fold (λ found s. laid_over address count s found) (None ∷ None ∷ None ∷ None ∷ []) ss ≡ forwarded ss address count
   fold-laid_over ss =
-      let none : (offset : ℕ) → over_byte ss None offset ≡ cond (nat_lt offset count) (youngest_byte (address + offset) ss) None = λ offset. over_byte-none (nat_lt offset count) (youngest_byte (address + offset) ss) in
+      let none : (offset : ℕ) →
+      over_byte ss None offset ≡ cond (nat_lt offset count) (youngest_byte (address + offset) ss) None =
+      λ offset. over_byte-none (nat_lt offset count) (youngest_byte (address + offset) ss) in
       fold-over ss None None None None ∙ four (none 0) (none 1) (none 2) (none 3)

@@ -34,7 +34,8 @@ pub ComeFirst-older : (n : ℕ) (ss : List Store) → IsInOrder (λ s. s.seq) ss
 ComeFirst-older n ss h i j d lt within passes = let rises = h i j d lt within in grind (arith, nat_tests)
 
 -- one more store, where there is room
-pub keep_last-room : (capacity : ℕ) (ss : List Store) (t : Store) → length ss < capacity → keep_last capacity (ss ++ t ∷ []) ≡ ss ++ t ∷ []
+pub keep_last-room : (capacity : ℕ) (ss : List Store) (t : Store) → length ss < capacity →
+    keep_last capacity (ss ++ t ∷ []) ≡ ss ++ t ∷ []
 keep_last-room capacity ss t h =
     let none : length (ss ++ t ∷ []) - capacity ≡ 0 = omega (arith, length-append ss (t ∷ [])) in rw none refl
 
@@ -48,5 +49,6 @@ pub AreBelow-youngest : (n : ℕ) (ss : List Store) (s : Store) → IsInOrder (�
 AreBelow-youngest n ss s order at lt = AreBelow-last (λ t. t.seq) n (length ss - 1) ss s order (omega arith) at lt
 
 -- where all are below a number, the youngest is
-pub youngest-below : (n : ℕ) (ss : List Store) (s : Store) → last_item ss ≡ Some s → AreBelow (λ t. t.seq) n ss → s.seq < n
+pub youngest-below : (n : ℕ) (ss : List Store) (s : Store) → last_item ss ≡ Some s → AreBelow (λ t. t.seq) n ss →
+    s.seq < n
 youngest-below n ss s at are = AreBelow-slice_get (λ t. t.seq) n (length ss - 1) ss s are at

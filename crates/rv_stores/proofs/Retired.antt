@@ -42,7 +42,8 @@ same_one false s ss zero at is on = absurd (cc)
 same_one false s ss (suc j) at is on = absurd (omega arith)
 
 -- where all stores are committed, a retirement changes none
-pub with_oldest_retired-same : (ss : List Store) (i : ℕ) → i ≡ prefix_len is_committed ss → slice_get ss i ≡ None → with_oldest_retired ss ≡ ss
+pub with_oldest_retired-same : (ss : List Store) (i : ℕ) → i ≡ prefix_len is_committed ss → slice_get ss i ≡ None →
+    with_oldest_retired ss ≡ ss
 with_oldest_retired-same [] i at is = refl
 with_oldest_retired-same (s ∷ ss) i at is =
     same_one (is_committed s) s ss i at is (λ j at' is'. with_oldest_retired-same ss j at' is')
@@ -51,22 +52,31 @@ above-retired : (n : ℕ) (ss : List Store) → All (λ s. n < s.seq) ss → All
 above-retired n [] h = h
 above-retired n (s ∷ ss) h =
     let above : ℕ → Store → Type 0 = λ m t. m < t.seq in
-    elim (is_committed s) as (λ b. All (above n) (cond b (s ∷ with_oldest_retired ss) (retired_store s ∷ ss)))
-    [ true ↦ All-cons (above n) s (with_oldest_retired ss) (All-head (above n) s ss h) (above-retired n ss (All-tail (above n) s ss h)) | false ↦ All-cons (above n) (retired_store s) ss (All-head (above n) s ss h) (All-tail (above n) s ss h) ]
+    elim (is_committed s) as (λ b. All (above n) (cond b (s ∷ with_oldest_retired ss) (retired_store s ∷ ss))) [
+      | true ↦ All-cons (above n) s (with_oldest_retired ss) (All-head (above n) s ss h)
+          (above-retired n ss (All-tail (above n) s ss h))
+      | false ↦ All-cons (above n) (retired_store s) ss
+          (All-head (above n) s ss h) (All-tail (above n) s ss h)
+    ]
 
 -- a retirement leaves the numbers in order
 pub IsInOrder-retired : (ss : List Store) → IsInOrder (λ s. s.seq) ss → IsInOrder (λ s. s.seq) (with_oldest_retired ss)
 IsInOrder-retired [] h = h
 IsInOrder-retired (s ∷ ss) h =
     let seq : Store → ℕ = λ t. t.seq in
-    elim (is_committed s) as (λ b. IsInOrder seq (cond b (s ∷ with_oldest_retired ss) (retired_store s ∷ ss)))
-    [ true ↦ IsInOrder-cons seq s (with_oldest_retired ss) (above-retired s.seq ss (IsInOrder-head seq s ss h)) (IsInOrder-retired ss (IsInOrder-tail seq s ss h)) | false ↦ IsInOrder-cons seq (retired_store s) ss (IsInOrder-head seq s ss h) (IsInOrder-tail seq s ss h) ]
+    elim (is_committed s) as (λ b. IsInOrder seq (cond b (s ∷ with_oldest_retired ss) (retired_store s ∷ ss))) [
+      | true ↦ IsInOrder-cons seq s (with_oldest_retired ss) (above-retired s.seq ss (IsInOrder-head seq s ss h))
+          (IsInOrder-retired ss (IsInOrder-tail seq s ss h))
+      | false ↦ IsInOrder-cons seq (retired_store s) ss
+          (IsInOrder-head seq s ss h) (IsInOrder-tail seq s ss h)
+    ]
 
 first_one : (b : Bool) (s : Store) (ss : List Store) → is_committed s ≡ b → ComeFirst is_committed (s ∷ ss) →
     ComeFirst is_committed (with_oldest_retired ss) →
     ComeFirst is_committed (cond b (s ∷ with_oldest_retired ss) (retired_store s ∷ ss))
 first_one true s ss e h on =
-    AllPairs-cons (λ x y. is_committed y ≡ true → is_committed x ≡ true) s (with_oldest_retired ss) (λ k d lt passes. e) on
+    AllPairs-cons (λ x y. is_committed y ≡ true → is_committed x ≡ true) s (with_oldest_retired ss)
+    (λ k d lt passes. e) on
 first_one false s ss e h on =
     AllPairs-cons (λ x y. is_committed y ≡ true → is_committed x ≡ true) (retired_store s) ss
     (λ k d lt passes. absurd (true≢false (sym (ComeFirst-fails is_committed s ss h e k d lt passes) ∙ e)))

@@ -33,7 +33,8 @@ pub Appends-same : (a b : Option (List ℕ)) (xs ys : List ℕ) → xs ≡ ys �
 Appends-same a b xs ys same appended = rw same at appended
 
 -- a beginning of a text is a beginning of a longer one
-pub beginning-longer : (a b : Option (List ℕ)) (xs ys : List ℕ) → AppendsBeginning a b xs → AppendsBeginning a b (xs ++ ys)
+pub beginning-longer : (a b : Option (List ℕ)) (xs ys : List ℕ) → AppendsBeginning a b xs →
+    AppendsBeginning a b (xs ++ ys)
 beginning-longer a b xs ys (n, within, appended) = (
   n,
   omega (arith, length-append xs ys),
@@ -41,7 +42,8 @@ beginning-longer a b xs ys (n, within, appended) = (
 )
 
 -- a text and a beginning of the next are a beginning of both
-pub beginning-both : (a b c : Option (List ℕ)) (xs ys : List ℕ) → Appends a b xs → AppendsBeginning b c ys → AppendsBeginning a c (xs ++ ys)
+pub beginning-both : (a b c : Option (List ℕ)) (xs ys : List ℕ) → Appends a b xs → AppendsBeginning b c ys →
+    AppendsBeginning a c (xs ++ ys)
 beginning-both a b c xs ys first (n, within, appended) = (
   length xs + n,
   omega (arith, length-append xs ys),
@@ -50,13 +52,15 @@ beginning-both a b c xs ys first (n, within, appended) = (
 )
 
 -- a beginning of a text is a beginning of an equal one
-pub beginning-same : (a b : Option (List ℕ)) (xs ys : List ℕ) → xs ≡ ys → AppendsBeginning a b xs → AppendsBeginning a b ys
+pub beginning-same : (a b : Option (List ℕ)) (xs ys : List ℕ) → xs ≡ ys → AppendsBeginning a b xs →
+    AppendsBeginning a b ys
 beginning-same a b xs ys same beginning = rw same at beginning
 
 -- texts one after the other, up to the place of one of them
 module _ {X : Type 0} (text : X → List ℕ) (items : List X) (place : ℕ) (other : X) (here : place < length items) where
   -- the texts of one item more are those up to its place, and its own
-  pub flat_map-more : flat_map text (take (place + 1) items) ≡ flat_map text (take place items) ++ text (get_or items place other)
+  pub flat_map-more : flat_map text (take (place + 1) items) ≡ flat_map text (take place items)
+      ++ text (get_or items place other)
   flat_map-more =
       ap (flat_map text) (take_more items place other here)
       ∙ flat_map-append text (take place items) (get_or items place other ∷ [])
@@ -66,14 +70,16 @@ range-more : (first count : ℕ) → range_with_len first (suc count) ≡ range_
 range-more first zero = ap (λ n. n ∷ []) (omega arith)
 range-more first (suc count) =
     let same : first + 1 + count ≡ first + suc count = omega arith in
-    ap (λ l. first ∷ l) (range-more (first + 1) count) ∙ ap (λ n. first ∷ range_with_len (first + 1) count ++ n ∷ []) same
+    ap (λ l. first ∷ l) (range-more (first + 1) count)
+    ∙ ap (λ n. first ∷ range_with_len (first + 1) count ++ n ∷ []) same
 
 -- the texts of the numbers below a bound
 unfoldable pub texts_below : (ℕ → List ℕ) → ℕ → List ℕ
 texts_below text bound = flat_map text (range_with_len 0 bound)
 
 -- below the next bound there is one text more, that of the bound
-pub texts_below-more : (text : ℕ → List ℕ) (bound : ℕ) → texts_below text (suc bound) ≡ texts_below text bound ++ text bound
+pub texts_below-more : (text : ℕ → List ℕ) (bound : ℕ) → texts_below text (suc bound)
+    ≡ texts_below text bound ++ text bound
 unfolding texts_below
 texts_below-more text bound =
     ap (flat_map text) (range-more 0 bound) ∙ flat_map-append text (range_with_len 0 bound) ((0 + bound) ∷ [])

@@ -15,14 +15,16 @@ holds-now cycle = and_from _ _ (le-leb cycle cycle (omega arith)) (lt-ltb cycle 
 holds-then : (cycle latest : ℕ) → (latest ≡ cycle → ⊥) → holds_unit cycle (record { cycle = latest; cost = 1 }) ≡ false
 holds-then cycle latest other = elim (cases_lt cycle latest) [
   | inl before ↦ and_left (nat_le latest cycle) (nat_lt cycle (latest + 1)) (lt-leb latest cycle before)
-  | inr since ↦ and_right (nat_le latest cycle) (nat_lt cycle (latest + 1)) (le-ltb cycle (latest + 1) (elim (cases_lt latest cycle) [
-    | inl behind ↦ omega arith
-    | inr same ↦ absurd (other (omega arith))
-  ]))
+  | inr since ↦ and_right (nat_le latest cycle) (nat_lt cycle (latest + 1))
+      (le-ltb cycle (latest + 1) (elim (cases_lt latest cycle) [
+        | inl behind ↦ omega arith
+        | inr same ↦ absurd (other (omega arith))
+      ]))
 ]
 
 -- starts of a cycle that last for one cycle all hold a unit in it
-pub holding-now : (cycle n : ℕ) → holding cycle (replicate n (record { cycle = cycle; cost = 1 })) ≡ replicate n (record { cycle = cycle; cost = 1 })
+pub holding-now : (cycle n : ℕ) → holding cycle (replicate n (record { cycle = cycle; cost = 1 }))
+    ≡ replicate n (record { cycle = cycle; cost = 1 })
 holding-now cycle zero = refl
 holding-now cycle (suc n) =
     let start : Issue = record { cycle = cycle; cost = 1 } in
@@ -30,7 +32,8 @@ holding-now cycle (suc n) =
     ap (λ b. cond b (start ∷ rest) rest) (holds-now cycle) ∙ ap (λ l. start ∷ l) (holding-now cycle n)
 
 -- starts of another cycle that last for one cycle hold no unit
-pub holding-then : (cycle latest n : ℕ) → (latest ≡ cycle → ⊥) → holding cycle (replicate n (record { cycle = latest; cost = 1 })) ≡ []
+pub holding-then : (cycle latest n : ℕ) → (latest ≡ cycle → ⊥) →
+    holding cycle (replicate n (record { cycle = latest; cost = 1 })) ≡ []
 holding-then cycle latest zero other = refl
 holding-then cycle latest (suc n) other =
     let start : Issue = record { cycle = latest; cost = 1 } in
@@ -45,7 +48,8 @@ holding-one_cycle : (cycle latest n : ℕ) →
 holding-one_cycle cycle latest n = elim (cases_Bool (eqb latest cycle)) [
   | inl same ↦
       let is : latest ≡ cycle = eqb-true latest cycle same in
-      rw is (rw (holding-now cycle n) (ap (λ k. replicate k (record { cycle = cycle; cost = 1 })) (sym (length-replicate n _))))
+      rw is (rw (holding-now cycle n) (ap (λ k. replicate k (record { cycle = cycle; cost = 1 }))
+      (sym (length-replicate n _))))
   | inr other ↦
       let none = holding-then cycle latest n (λ is. true≢false (sym (eq-eqb latest cycle is) ∙ other)) in
       rw none refl
@@ -65,4 +69,5 @@ started-pipelined units cost cycle latest n =
     let start : Issue = record { cycle = cycle; cost = 1 } in
     let pool : List Issue → Pool = λ ss. record { units = units; is_pipelined = true; starts = ss } in
     let held : List Issue = holding cycle (replicate n (record { cycle = latest; cost = 1 })) in
-    ap pool (sym (replicate_more (length held) start) ∙ ap (λ ss. ss ++ start ∷ []) (sym (holding-one_cycle cycle latest n)))
+    ap pool (sym (replicate_more (length held) start)
+    ∙ ap (λ ss. ss ++ start ∷ []) (sym (holding-one_cycle cycle latest n)))

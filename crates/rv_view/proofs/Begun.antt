@@ -21,6 +21,7 @@ module _ (h : Hardware) where
       record { passages = is; few = few; room = record { room = room; rows = rows; interrupts = interrupts } }
 
   -- where a table can follow a cycle, it can follow one that led to the buffers
-  pub can_follow_to : {steps : List Step} {table : Table} → Reachable h → CanFollowCycle steps table → CanFollow steps h.rob h.front table
+  pub can_follow_to : {steps : List Step} {table : Table} → Reachable h → CanFollowCycle steps table →
+      CanFollow steps h.rob h.front table
   can_follow_to reached can =
       record { short = short_buffers reached refl refl; room = can.room; countable = can.countable; few = can.few }

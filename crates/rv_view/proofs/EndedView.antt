@@ -29,4 +29,5 @@ ended_by {limit = limit} {new = new} run stop is =
 pub cycles_seen-push : {cycle : ℕ} {steps : List Step} {after : Hardware} {progress : Progress} (seen : Watched)
     (shown : IsShown seen cycle steps after progress)
     → cycles_seen (with_shown seen shown) ≡ cycles_seen seen ++ cycle_shown seen shown ∷ []
-cycles_seen-push {after = after} seen shown = walk-push still_open shown.passes (record { report = shown.report; after = after })
+cycles_seen-push {after = after} seen shown =
+    walk-push still_open shown.passes (record { report = shown.report; after = after })

@@ -12,5 +12,6 @@ pub reached_by : {arrivals : List Arrival} {old new : GuidedHardware} {moments :
     → History arrivals old moments new → new.hardware.cycle ≤ 2 ^ 40 → Reachable new.hardware
 reached_by reached ended within = reached
 reached_by reached (cycled cycle rest) within =
-    reached_by (by_cycle reached (omega (arith, within, cycle_counts cycle, moments_counted rest)) (any_cycle cycle.cycle)) rest
+    reached_by (by_cycle reached (omega (arith, within, cycle_counts cycle, moments_counted rest))
+    (any_cycle cycle.cycle)) rest
     within

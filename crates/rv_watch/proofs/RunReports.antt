@@ -14,7 +14,8 @@ use Rattle.rv_hardware.specs.Report.{count_of}
 -- a cycle's steps come after those before it
 pub steps_of-push : (rs : List Report) (r : Report) → steps_of (rs ++ r ∷ []) ≡ steps_of rs ++ r.steps
 steps_of-push [] r = append-nil r.steps
-steps_of-push (x ∷ rs) r = ap (λ l. x.steps ++ l) (steps_of-push rs r) ∙ sym (append_assoc x.steps (steps_of rs) r.steps)
+steps_of-push (x ∷ rs) r = ap (λ l. x.steps ++ l) (steps_of-push rs r)
+    ∙ sym (append_assoc x.steps (steps_of rs) r.steps)
 
 stalls_from-push : (counts : StallCounts) (rs : List Report) (r : Report) →
     stalls_from counts (rs ++ r ∷ []) ≡ counted_stall r.stall (stalls_from counts rs)
@@ -28,14 +29,16 @@ silence_from-push n (x ∷ rs) r = silence_from-push (silence_after (is_silent x
 
 -- whether the silence before is counted on or begun anew
 longest_gap_from-push : (n : ℕ) (rs : List Report) (r : Report) →
-    longest_gap_from n (rs ++ r ∷ []) ≡ max (longest_gap_from n rs) (silence_after (is_silent r.steps) (silence_from n rs))
+    longest_gap_from n (rs ++ r ∷ [])
+    ≡ max (longest_gap_from n rs) (silence_after (is_silent r.steps) (silence_from n rs))
 longest_gap_from-push n [] r = grind arith
 longest_gap_from-push n (x ∷ rs) r = grind (arith, longest_gap_from-push (n + 1) rs r, longest_gap_from-push 0 rs r)
 
 busy_one : (idle : Bool) (n : ℕ) → n + cond (not idle) 1 0 ≡ cond idle n (n + 1)
 busy_one idle n = grind arith
 
-busy_of-push : (rs : List Report) (r : Report) → busy_of (rs ++ r ∷ []) ≡ cond (r.dispatched == 0) (busy_of rs) (busy_of rs + 1)
+busy_of-push : (rs : List Report) (r : Report) →
+    busy_of (rs ++ r ∷ []) ≡ cond (r.dispatched == 0) (busy_of rs) (busy_of rs + 1)
 busy_of-push rs r =
     sum_by_push (λ (x : Report). cond (not (x.dispatched == 0)) 1 0) rs r ∙ busy_one (r.dispatched == 0) (busy_of rs)
 
@@ -64,12 +67,14 @@ silence-bound n [] = omega arith
 silence-bound n (x ∷ rs) = grind (arith, silence-bound (n + 1) rs, silence-bound 0 rs)
 
 -- a count of stalls to which each cycle adds one at most
-stalls-bound : (count : StallCounts → ℕ) → ((o : Option Stall) (c : StallCounts) → count (counted_stall o c) ≤ count c + 1) →
+stalls-bound : (count : StallCounts → ℕ) →
+    ((o : Option Stall) (c : StallCounts) → count (counted_stall o c) ≤ count c + 1) →
     (c : StallCounts) (rs : List Report) → count (stalls_from c rs) ≤ count c + length rs
 stalls-bound count one c [] = omega arith
 stalls-bound count one c (x ∷ rs) = omega (arith, one x.stall c, stalls-bound count one (counted_stall x.stall c) rs)
 
-count-step : (stall : Stall) (o : Option Stall) (c : StallCounts) → count_of stall (counted_stall o c) ≤ count_of stall c + 1
+count-step : (stall : Stall) (o : Option Stall) (c : StallCounts) → count_of stall (counted_stall o c)
+    ≤ count_of stall c + 1
 count-step stall o c = grind arith
 
 none_counted : (stall : Stall) → count_of stall (stalls_of []) ≡ 0
@@ -80,7 +85,12 @@ pub progress-bounded : (rs : List Report) → IsBounded (progress_of rs)
 progress-bounded rs = record {
   busy = count_by-le-length (λ r. not (r.dispatched == 0)) rs;
   silent = omega (arith, silence-bound 0 rs);
-  stalls = λ stall. omega (arith, stalls-bound (count_of stall) (count-step stall) (stalls_of []) rs, none_counted stall);
+  stalls = λ stall. omega (
+    arith,
+    stalls-bound (count_of stall) (count-step stall) (stalls_of [])
+        rs,
+    none_counted stall,
+  );
 }
 
 -- ---- what is reported of cycles

@@ -6,7 +6,8 @@ use Rattle.rv_watch.specs.Progress.{IsCommitStop}
 
 -- the reason of a run's last cycle is a reason of the run
 pub is_stop : (limit : ℕ) (reports : List Report) (last : Report) (new : Hardware) (reason : Stop) → NoneStops reports →
-    last.stop ≡ Some reason → IsCommitStop (Some reason) → length reports < limit → IsStop limit (reports ++ last ∷ []) new reason
+    last.stop ≡ Some reason → IsCommitStop (Some reason) → length reports < limit →
+    IsStop limit (reports ++ last ∷ []) new reason
 is_stop limit reports last new stop.Limit none is own within = absurd own
 is_stop limit reports last new stop.Exhausted none is own within = absurd own
 is_stop limit reports last new reason none is own within = (

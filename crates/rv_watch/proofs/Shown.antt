@@ -25,7 +25,8 @@ reports_of-push (moment ∷ moments) last = ap (λ l. moment.report ∷ l) (repo
 -- and its steps
 pub shown_steps-push : (moments : List Moment) (last : Moment) →
     steps_of (reports_of (moments ++ last ∷ [])) ≡ steps_of (reports_of moments) ++ last.report.steps
-shown_steps-push moments last = ap steps_of (reports_of-push moments last) ∙ steps_of-push (reports_of moments) last.report
+shown_steps-push moments last = ap steps_of (reports_of-push moments last)
+    ∙ steps_of-push (reports_of moments) last.report
 
 few_steps-push : (moments : List Moment) (last : Moment) → HaveFewSteps moments → length last.report.steps ≤ 8 →
     HaveFewSteps (moments ++ last ∷ [])
@@ -60,24 +61,31 @@ pub moments_counted : {arrivals : List Arrival} {old new : GuidedHardware} {mome
 moments_counted passes = cycles_counted (cycles_of (cycles_shown passes))
 
 -- what a run came to by the values that its end hands on
-pub ended_as : {T Refusal : Type 0} {has_seen : Sight T} {arrivals : List Arrival} {limit : ℕ} {old new : GuidedHardware}
-    {progress progress' : Progress} {end end' : Result Stop Refusal} {watcher watcher' : T} {output output' : Option (List ℕ)} →
+pub ended_as : {T Refusal : Type 0} {has_seen : Sight T} {arrivals : List Arrival} {limit : ℕ}
+    {old new : GuidedHardware}
+    {progress progress' : Progress} {end end' : Result Stop Refusal} {watcher watcher' : T}
+    {output output' : Option (List ℕ)} →
     progress' ≡ progress → end' ≡ end
     → IsWatchedRun has_seen arrivals limit old new progress end watcher watcher' output output' →
     IsWatchedRun has_seen arrivals limit old new progress' end' watcher watcher' output output'
 ended_as progress_is end_is run = rw (progress_is, end_is) run
 
 -- a run that was not refused stopped for its reason
-pub stops_by : {T Refusal : Type 0} {has_seen : Sight T} {arrivals : List Arrival} {limit : ℕ} {old new : GuidedHardware}
+pub stops_by : {T Refusal : Type 0} {has_seen : Sight T} {arrivals : List Arrival} {limit : ℕ}
+    {old new : GuidedHardware}
     {progress : Progress} {end : Result Stop Refusal} {watcher watcher' : T} {output output' : Option (List ℕ)}
-    → (run : IsWatchedRun has_seen arrivals limit old new progress end watcher watcher' output output') → (stop : Stop) →
+    → (run : IsWatchedRun has_seen arrivals limit old new progress end watcher watcher' output output') →
+    (stop : Stop) →
     end ≡ Ok stop → IsStop limit (reports_of run.moments) new.hardware stop
-stops_by {limit = limit} {new = new} run stop is = subst (λ e. IsEnd limit (reports_of run.moments) new.hardware e) is run.ends
+stops_by {limit = limit} {new = new} run stop is =
+    subst (λ e. IsEnd limit (reports_of run.moments) new.hardware e) is run.ends
 
 -- a run that was refused had not stopped
-pub cut_short_by : {T Refusal : Type 0} {has_seen : Sight T} {arrivals : List Arrival} {limit : ℕ} {old new : GuidedHardware}
+pub cut_short_by : {T Refusal : Type 0} {has_seen : Sight T} {arrivals : List Arrival} {limit : ℕ}
+    {old new : GuidedHardware}
     {progress : Progress} {end : Result Stop Refusal} {watcher watcher' : T} {output output' : Option (List ℕ)}
-    → (run : IsWatchedRun has_seen arrivals limit old new progress end watcher watcher' output output') → (refusal : Refusal) →
+    → (run : IsWatchedRun has_seen arrivals limit old new progress end watcher watcher' output output') →
+    (refusal : Refusal) →
     end ≡ Err refusal → NoneStops (reports_of run.moments) × (length (reports_of run.moments) < limit)
 cut_short_by {limit = limit} {new = new} run refusal is =
     subst (λ e. IsEnd limit (reports_of run.moments) new.hardware e) is run.ends
@@ -94,7 +102,8 @@ module _ {T : Type 0} (has_seen : Sight T) (arrivals : List Arrival) (old : Guid
   BeginsToSee before = has_seen watcher watcher (watched arrivals old [] old) before output
 
   -- the cycles so far, none of which stopped the run, were counted and shown
-  pub record IsWatching (now : GuidedHardware) (progress : Progress) (watcher' : T) (output' : Option (List ℕ)) : Type 0 where
+  pub record IsWatching (now : GuidedHardware) (progress : Progress) (watcher' : T)
+      (output' : Option (List ℕ)) : Type 0 where
     pub moments : List Moment
     pub passes : History arrivals old moments now
     pub few : HaveFewSteps moments
@@ -106,7 +115,14 @@ module _ {T : Type 0} (has_seen : Sight T) (arrivals : List Arrival) (old : Guid
   -- before the first cycle nothing was shown
   pub watching_nothing : (progress : Progress) → progress ≡ progress_of [] → IsWatching old progress watcher output
   watching_nothing progress none =
-      record { moments = []; passes = ended; few = omega arith; none_stops = tt; counted = none; seen = λ before begins. begins }
+      record {
+        moments = [];
+        passes = ended;
+        few = omega arith;
+        none_stops = tt;
+        counted = none;
+        seen = λ before begins. begins;
+      }
 
   module _ {now : GuidedHardware} {progress : Progress} {watcher' : T} {output' : Option (List ℕ)}
       (watching : IsWatching now progress watcher' output') where
@@ -147,7 +163,8 @@ module _ {T : Type 0} (has_seen : Sight T) (arrivals : List Arrival) (old : Guid
     -- one more cycle, which is shown
     module _ {after : Hardware} {predictor : Guide} {cleared list steps : List Step} {progress' : Progress}
         {stop : Option Stop} {cycle : ℕ}
-        (next : IsNextCycle arrivals now (guided after predictor) cleared list progress progress' stop) (none : cleared ≡ [])
+        (next : IsNextCycle arrivals now (guided after predictor) cleared list progress progress'
+        stop) (none : cleared ≡ [])
         (listed : steps ≡ list)
         (reached : Reachable now.hardware) (number : cycle ≡ now.hardware.cycle) (within : cycle < 2 ^ 40) where
       pub steps_are : steps ≡ next.report.steps
@@ -199,7 +216,8 @@ module _ {T : Type 0} (has_seen : Sight T) (arrivals : List Arrival) (old : Guid
         }
 
         -- and with one that stops it is over
-        pub watched_to_stop : {Refusal : Type 0} (limit : ℕ) (reason : Stop) → stop ≡ Some reason → progress.cycles < limit →
+        pub watched_to_stop : {Refusal : Type 0} (limit : ℕ) (reason : Stop) → stop ≡ Some reason →
+            progress.cycles < limit →
             IsWatchedRun {Refusal = Refusal} has_seen arrivals limit old new progress'
             (Ok reason) watcher watcher'' output output''
         watched_to_stop {Refusal} limit reason is short = record {
@@ -208,7 +226,8 @@ module _ {T : Type 0} (has_seen : Sight T) (arrivals : List Arrival) (old : Guid
           counted = counted_now;
           ends = subst (λ (reports : List Report). IsEnd {Refusal = Refusal} limit reports after (Ok reason))
               (sym (reports_of-push watching.moments moment))
-              (is_stop limit (reports_of watching.moments) next.report after reason watching.none_stops (next.stop_is ∙ is)
+              (is_stop limit (reports_of watching.moments) next.report after reason
+              watching.none_stops (next.stop_is ∙ is)
               (subst IsCommitStop is next.reason) (omega (arith, so_many_shown progress.cycles refl, short)));
           seen = λ before begins. sees before (watching.seen before begins);
         }

@@ -69,7 +69,8 @@ module _ {h : Hardware} (sound : IsSoundHardware h) where
   }
   keeps _ = sound.cache
 
-  module _ {kind : Kind} {ready : Ready} (leaving : Leaving h kind ready) {queue : Queue} (x : Execution h kind queue ready)
+  module _ {kind : Kind} {ready : Ready} (leaving : Leaving h kind ready) {queue : Queue}
+      (x : Execution h kind queue ready)
       (queued : queue.stores ≡ stores_after h h.rob.entries) where
     abbrev before : List Entry
     before = leaving.before

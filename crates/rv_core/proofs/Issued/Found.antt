@@ -16,7 +16,8 @@ none_found : (test : Station → Bool) (ws : List Station) → option_and_then r
 none_found test [] is = refl
 none_found test (w ∷ ws) is = grind (arith, none_found test ws)
 
-none_taken : (test : Station → Bool) (ws : List Station) → oldest_ready test ws ≡ None → without_oldest_ready test ws ≡ ws
+none_taken : (test : Station → Bool) (ws : List Station) → oldest_ready test ws ≡ None →
+    without_oldest_ready test ws ≡ ws
 none_taken test [] none = refl
 none_taken test (w ∷ ws) none = grind (arith, none_taken test ws)
 
@@ -54,7 +55,8 @@ module _ (h : Hardware) (kind : Kind) where
     agree_of k = operations_agree h k refl
 
     searched :
-        NoneFound kind (values_in h.registers) h.rob.retired h.rob.entries test_of (is_ready_entry h kind) [] h.rob.entries ⊎
+        NoneFound kind (values_in h.registers) h.rob.retired h.rob.entries test_of
+        (is_ready_entry h kind) [] h.rob.entries ⊎
         Found kind (values_in h.registers) h.rob.retired h.rob.entries test_of (is_ready_entry h kind) [] h.rob.entries
     searched = search_from kind (values_in h.registers) h.rob.retired h.rob.entries test_of
         (is_ready_entry h kind) [] h.rob.entries refl (agree_of kind) (passes_by h kind)
@@ -70,19 +72,23 @@ module _ (h : Hardware) (kind : Kind) where
 
     -- nothing leaves where the definition finds nothing
     pub nothing_leaves : {result : Option Ready} → Answer result → result ≡ None →
-        (oldest (is_ready_entry h kind) h.rob.entries ≡ None) × (without_oldest_ready test_of stationed_now ≡ stationed_now)
+        (oldest (is_ready_entry h kind) h.rob.entries ≡ None)
+        × (without_oldest_ready test_of stationed_now ≡ stationed_now)
     nothing_leaves answer is =
         let none = none_found test_of stationed_now (sym answer ∙ is) in (
           elim searched [
             | inl n ↦ n.defined
-            | inr f ↦ absurd (let found = sym none ∙ ap (oldest_ready test_of) (from_first h.rob.entries) ∙ f.searched in cc)
+            | inr f ↦ absurd (let found = sym none
+                ∙ ap (oldest_ready test_of) (from_first h.rob.entries) ∙ f.searched in cc)
           ],
           none_taken test_of stationed_now none,
         )
 
     leaves_by : (result : Option Ready) (ready : Ready) → Answer result → result ≡ Some ready →
-        NoneFound kind (values_in h.registers) h.rob.retired h.rob.entries test_of (is_ready_entry h kind) [] h.rob.entries ⊎
-        Found kind (values_in h.registers) h.rob.retired h.rob.entries test_of (is_ready_entry h kind) [] h.rob.entries →
+        NoneFound kind (values_in h.registers) h.rob.retired h.rob.entries test_of
+        (is_ready_entry h kind) [] h.rob.entries ⊎
+        Found kind (values_in h.registers) h.rob.retired h.rob.entries test_of
+        (is_ready_entry h kind) [] h.rob.entries →
         Leaving ready
     leaves_by result ready answer is (inl n) =
         let none = ap (oldest_ready test_of) (from_first h.rob.entries) ∙ n.searched in

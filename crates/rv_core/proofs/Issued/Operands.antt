@@ -11,7 +11,8 @@ use Rattle.rv_hardware.proofs.Headline.Known.{length-with_value}
 use Rattle.rv_isa.specs.declared.instructions.CsrSource.TheVariants as source
 
 -- an instruction has two sources
-pub two_sources : (i : Instr) → sources_of i ≡ slice_index_or (sources_of i) 0 None ∷ slice_index_or (sources_of i) 1 None ∷ []
+pub two_sources : (i : Instr) → sources_of i ≡ slice_index_or (sources_of i) 0 None
+    ∷ slice_index_or (sources_of i) 1 None ∷ []
 two_sources (Csr op rd csr (source.Register rs1)) = refl
 two_sources _ = refl
 
@@ -44,7 +45,8 @@ ShowsRegisters status registers = (r v : ℕ) → status r ≡ Value v → slice
 shows_by : (status : RegisterStatus) (registers : List ℕ) (seq : ℕ) (target : Option ℕ) (o : Option Message) →
     IfSome target (λ t. t < length registers) → ((t : ℕ) → target ≡ Some t → t ≢ 0) → ShowsRegisters status registers →
     (r v : ℕ) →
-    cond (is_target r target) (operand_by seq o) (status r) ≡ Value v → slice_index (with_value registers target o) r ≡ v
+    cond (is_target r target) (operand_by seq o) (status r) ≡ Value v →
+    slice_index (with_value registers target o) r ≡ v
 shows_by status registers seq None o within positive shows r v is = shows r v is
 shows_by status registers seq (Some t) None within positive shows r v is = grind (arith, shows)
 shows_by status registers seq (Some t) (Some message) within positive shows r v is =
@@ -56,7 +58,8 @@ pub shows_after : (es : List Entry) (status : RegisterStatus) (registers : List 
 shows_after [] status registers seq sized targets shows = shows
 shows_after (e ∷ es) status registers seq sized targets shows =
     let P : Entry → Type 0 = λ x. IfSome (target_of_word x.instruction) (λ t. t < 32) in
-    let target : IfSome (target_of_word e.instruction) (λ t. t < length registers) = rw sized (All-head P e es targets) in
+    let target : IfSome (target_of_word e.instruction) (λ t. t < length registers) =
+    rw sized (All-head P e es targets) in
     shows_after es (status_with status seq e)
     (with_value registers (target_of_word e.instruction) (broadcast_of e.stage))
     (seq + 1)

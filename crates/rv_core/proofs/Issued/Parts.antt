@@ -17,7 +17,8 @@ use Rattle.rv_core.proofs.Issued.Passed.{passed_later, port_later}
 use Rattle.rv_core.proofs.Issued.Tied.{absent_from_bus, room_on_bus}
 
 -- the test that the code asks is the definition's
-test_in_code : {parts : Inside} → IsSound parts → (kind : Kind) {idle : Bool} → idle ≡ nat_le parts.port_free parts.cycle →
+test_in_code : {parts : Inside} → IsSound parts → (kind : Kind) {idle : Bool} →
+    idle ≡ nat_le parts.port_free parts.cycle →
     goes kind parts.cache.backing.layout parts.stores.stores idle ≡ test_of (hardware_of parts) kind
 test_in_code sound kind port = λ j. goes kind (sound.sound.cache.layout j) (sound.tied.queued j).stores (port j)
 
@@ -28,7 +29,8 @@ waiting_in_stations {parts = parts} sound kind =
     ap (λ (s : PerKind Pool). (at_kind kind s).waiting) sound.tied.stationed
     ∙ ap (λ p. p.waiting) (at_kind-by_kind (pool_of_kind parts.values parts.registers parts.rob) kind)
 
-module _ {parts : Inside} (sound : IsSound parts) {old : Hardware} (view : hardware_of parts ≡ old) (kind : Kind) {idle : Bool}
+module _ {parts : Inside} (sound : IsSound parts) {old : Hardware} (view : hardware_of parts ≡ old)
+    (kind : Kind) {idle : Bool}
     (port : idle ≡ nat_le old.port_free old.cycle) where
   abbrev h : Hardware
   h = hardware_of parts
@@ -97,7 +99,8 @@ module _ {parts : Inside} (sound : IsSound parts) {old : Hardware} (view : hardw
       module _ (x : Execution h kind parts.stores ready)
           {units : PerKind UnitPool} {rob : ReorderBuffer} {stations : PerKind Pool} {bus : Pending}
           (held : units ≡ with_kind kind (started_unit x.cost parts.cycle (at_kind kind parts.units)) parts.units)
-          (changes : rob ≡ changed (started (record { cycle = parts.cycle; cost = x.cost }) x.message) ready.seq parts.rob)
+          (changes : rob ≡ changed
+          (started (record { cycle = parts.cycle; cost = x.cost }) x.message) ready.seq parts.rob)
           (left : stations ≡ with_kind kind (taken_from code_test (at_kind kind parts.stations)) parts.stations)
           (accepted : bus ≡ with_result ready.seq (parts.cycle + x.cost) parts.bus) where
         abbrev after : Inside
@@ -133,29 +136,36 @@ module _ {parts : Inside} (sound : IsSound parts) {old : Hardware} (view : hardw
 
         still_idle : nat_le x.port_free parts.cycle ≡ true → idle ≡ true
         still_idle is =
-            let legal : IsLegalCost parts.cache.values = subst IsLegalCost (sym sound.sound.cache.values) sound.sound.legal.cache.1 in
+            let legal : IsLegalCost parts.cache.values =
+            subst IsLegalCost (sym sound.sound.cache.values) sound.sound.legal.cache.1 in
             is_idle
-            ∙ port_later parts.cycle parts.port_free parts.cache (path_of_ready parts.cache parts.stores ready) legal.hit.0
+            ∙ port_later parts.cycle parts.port_free parts.cache
+            (path_of_ready parts.cache parts.stores ready) legal.hit.0
             (ap (λ n. nat_le n parts.cycle) (sym x.ports) ∙ is)
 
         -- those that this search passed by, the next one may pass by
-        pub passed_after : (n : ℕ) → ArePassedBy code_test n (at_kind kind stations).waiting → NoneIssues kind n (hardware_of after)
+        pub passed_after : (n : ℕ) → ArePassedBy code_test n (at_kind kind stations).waiting →
+            NoneIssues kind n (hardware_of after)
         passed_after n passed =
             let layout = sound.sound.cache.layout ∙ sym sound_after.sound.cache.layout in
             (λ j. oldest_ready (sym (test_in_code sound_after kind refl) j)
             (take n (sym (waiting_in_stations sound_after kind) j)))
-            ∙ passed_later kind x.cache.backing.layout parts.stores.stores idle (nat_le x.port_free parts.cycle) still_idle n
+            ∙ passed_later kind x.cache.backing.layout parts.stores.stores idle
+            (nat_le x.port_free parts.cycle) still_idle n
             (at_kind kind stations).waiting
-            (subst (λ l. ArePassedBy (goes kind l parts.stores.stores idle) n (at_kind kind stations).waiting) layout passed)
+            (subst (λ l. ArePassedBy (goes kind l parts.stores.stores idle) n
+            (at_kind kind stations).waiting) layout passed)
 
         -- the hardware that they stand for is what the definition's turn goes on with
-        pub turn_after : is_free parts.cycle (at_kind kind parts.units) ≡ true → GoesOn (hardware_of after) ≡ issue_turn kind old
+        pub turn_after : is_free parts.cycle (at_kind kind parts.units) ≡ true →
+            GoesOn (hardware_of after) ≡ issue_turn kind old
         turn_after free =
             ap (λ (y : Hardware). GoesOn y) (sym seen ∙ is_issued sound.sound leaving x queued)
             ∙ turn_of_found free leaving.found
 
   -- where no instruction of the kind has its operands, a turn ends the phase and changes nothing
-  pub turn_unready : ((test : Station → Bool) → oldest_ready test (at_kind kind parts.stations).waiting ≡ None) → Ends h ≡ issue_turn kind old
+  pub turn_unready : ((test : Station → Bool) → oldest_ready test (at_kind kind parts.stations).waiting ≡ None) →
+      Ends h ≡ issue_turn kind old
   turn_unready none = elim (cases_Bool (is_free parts.cycle (at_kind kind parts.units))) [
     | inl free ↦ turn_ends (sym (ap (option_and_then ready_of) (none code_test))) free refl
     | inr held ↦ sym (cond-false (is_free parts.cycle (at_kind kind parts.units))

@@ -17,13 +17,17 @@ goes_later Mem layout stores idle still later w is = grind (arith, later)
 goes_later _ layout stores idle still later w is = refl
 
 -- what may not go in a cycle may not go later in it, when the port is idle only if it was
-pub passed_later : (kind : Kind) (layout : Layout) (stores : List Store) (idle still : Bool) → (still ≡ true → idle ≡ true) →
-    (n : ℕ) (ws : List Station) → ArePassedBy (goes kind layout stores idle) n ws → ArePassedBy (goes kind layout stores still) n ws
+pub passed_later : (kind : Kind) (layout : Layout) (stores : List Store) (idle still : Bool) →
+    (still ≡ true → idle ≡ true) →
+    (n : ℕ) (ws : List Station) → ArePassedBy (goes kind layout stores idle) n ws →
+    ArePassedBy (goes kind layout stores still) n ws
 passed_later kind layout stores idle still later n ws passed =
-    none_by (goes kind layout stores idle) (goes kind layout stores still) (goes_later kind layout stores idle still later) (take n ws) passed
+    none_by (goes kind layout stores idle) (goes kind layout stores still)
+    (goes_later kind layout stores idle still later) (take n ws) passed
 
 -- an access takes a cycle at least
-cost_least : (values : CacheValues) → 1 ≤ values.hit → (is_hit : Bool) (dropped : Option CacheLine) → 1 ≤ cost_of_access values is_hit dropped
+cost_least : (values : CacheValues) → 1 ≤ values.hit → (is_hit : Bool) (dropped : Option CacheLine) →
+    1 ≤ cost_of_access values is_hit dropped
 cost_least values hit is_hit dropped = grind (arith, hit)
 
 -- the port is idle after a start only if it was before

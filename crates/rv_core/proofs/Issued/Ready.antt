@@ -21,17 +21,20 @@ use Rattle.rv_core.proofs.Loads.Path.{path_is_defined, port_is_defined}
 pub All-left : (P : Entry → Type 0) (xs ys : List Entry) → All P (xs ++ ys) → All P xs
 All-left P xs ys all = subst (All P) (take-append_seam xs ys) (All-take P (length xs) (xs ++ ys) all)
 
-agree_by : (ready goes operands may stationed : Bool) → ready ≡ operands → stationed ≡ true → (ready ≡ true → goes ≡ may) →
+agree_by : (ready goes operands may stationed : Bool) → ready ≡ operands → stationed ≡ true →
+    (ready ≡ true → goes ≡ may) →
     (ready && goes) ≡ ((stationed && operands) && may)
 agree_by ready goes operands may stationed r s g = grind arith
 
 -- an instruction that has a station of a kind is of that kind
 pub kind_there : (kind : Kind) (e : Entry) → is_stationed kind e ≡ true → kind_of_word e.instruction ≡ Some kind
 kind_there kind e is =
-    is_of_kind_is kind (kind_of_word e.instruction) (and_parts (is_waiting e.stage) (is_of_kind kind (kind_of_word e.instruction)) is).1
+    is_of_kind_is kind (kind_of_word e.instruction)
+    (and_parts (is_waiting e.stage) (is_of_kind kind (kind_of_word e.instruction)) is).1
 
 -- loads are of the memory's kind
-not_load : (kind : Kind) (i : Instr) → is_operation (Some kind) ≡ true → kind_of i ≡ Some kind → is_load (Some i) ≡ false
+not_load : (kind : Kind) (i : Instr) → is_operation (Some kind) ≡ true → kind_of i ≡ Some kind →
+    is_load (Some i) ≡ false
 not_load kind i operation is = grind arith
 
 -- an entry's target is a register
@@ -60,10 +63,12 @@ module _ (h : Hardware) where
 
     abbrev may : Option Instr → Bool
     may word = not (is_load word) ||
-        (list_all is_known_store (stores_after h older) && has_port h (path_of_word h older (state_after h older e.pc) word))
+        (list_all is_known_store (stores_after h older) && has_port h
+        (path_of_word h older (state_after h older e.pc) word))
 
     agrees : (kind : Kind) (test : Station → Bool) (i : Instr) → e.instruction ≡ Some i → is_stationed kind e ≡ true →
-        (is_ready_station (waiting_of status number e.pc i) ≡ true → test (waiting_of status number e.pc i) ≡ may (Some i)) →
+        (is_ready_station (waiting_of status number e.pc i) ≡ true →
+        test (waiting_of status number e.pc i) ≡ may (Some i)) →
         (is_ready_station (waiting_of status number e.pc i) && test (waiting_of status number e.pc i))
         ≡ is_ready_entry h kind older e
     agrees kind test i decoded there passes =
@@ -74,7 +79,8 @@ module _ (h : Hardware) where
         ∙ ap (λ word. has_operands older (sources_of_word word)) (sym decoded))
         there (λ ready. passes ready ∙ ap may (sym decoded))
 
-    module _ (all : older ++ e ∷ rest ≡ h.rob.entries) (retired : AreBelow (λ (s : Store). s.seq) h.rob.retired h.committed)
+    module _ (all : older ++ e ∷ rest ≡ h.rob.entries)
+        (retired : AreBelow (λ (s : Store). s.seq) h.rob.retired h.committed)
         (shows : ShowsRegisters status (registers_after h.registers older)) where
       abbrev waiting_stores : List Store
       waiting_stores = stores_after h h.rob.entries
@@ -99,15 +105,23 @@ module _ (h : Hardware) where
           let count = bytes_of (width_of form) in
           ap (λ ss. nat_le h.port_free h.cycle || not
           (needs_port (path_of (layout_of h.values) ss (sum base offset) count))) before
-          ∙ port_is_defined h (sum base offset) (path_of (layout_of h.values) (stores_after h older) (sum base offset) count)
+          ∙ port_is_defined h (sum base offset)
+          (path_of (layout_of h.values) (stores_after h older) (sum base offset) count)
           ∙ ap (has_port h) (path_is_defined h older (sum base offset) count)
           ∙ ap (λ b. has_port h (path_of_load h older (sum b offset) count)) (sym (shows rs1 base is))
 
       load_goes : (form : LoadForm) (rd rs1 : ℕ) (offset : ℤ) (first second : Operand) → status rs1 ≡ first →
           has_value first ≡ true →
-          goes (record { seq = number; pc = e.pc; instruction = Load form rd rs1 offset; first = first; second = second })
+          goes (record {
+            seq = number;
+            pc = e.pc;
+            instruction = Load form rd rs1 offset;
+            first = first;
+            second = second;
+          })
           ≡ may (Some (Load form rd rs1 offset))
-      load_goes form rd rs1 offset (Value base) second is there = λ k. known k && port form rs1 base (modulo_word offset) is k
+      load_goes form rd rs1 offset (Value base) second is there =
+          λ k. known k && port form rs1 base (modulo_word offset) is k
       load_goes form rd rs1 offset (Tag tag) second is there = absurd (cc)
 
       all_go : (i : Instr) → is_ready_station (waiting_of status number e.pc i) ≡ true →

@@ -58,7 +58,8 @@ module _ (kind : Kind) (status0 : RegisterStatus) (n0 : ℕ) where
   stations_step older e es = rw (status_push status0 n0 older e, ← next_place older e) refl
 
   -- once an instruction that was there has started, the stations hold what is after it
-  stations_started : (older : List Entry) (e : Entry) (i : Instr) (es : List Entry) (issue : Issue) (message : Message) →
+  stations_started : (older : List Entry) (e : Entry) (i : Instr) (es : List Entry)
+      (issue : Issue) (message : Message) →
       e.instruction ≡ Some i → is_waiting e.stage ≡ true →
       stations_after older (started issue message e ∷ es) ≡ stations_after (older ++ e ∷ []) es
   stations_started older e i es issue message is waiting =
@@ -106,7 +107,8 @@ module _ (kind : Kind) (status0 : RegisterStatus) (n0 : ℕ) where
         (at : waiting_at kind (status_after status0 n0 older) (n0 + length older) e e.instruction ≡ here)
         (not : ready older e ≡ false)
         (oldest_skips : (ws : List Station) → oldest_ready test (here ++ ws) ≡ oldest_ready test ws)
-        (others_skip : (ws : List Station) → without_oldest_ready test (here ++ ws) ≡ here ++ without_oldest_ready test ws) where
+        (others_skip : (ws : List Station) → without_oldest_ready test (here ++ ws) ≡ here
+        ++ without_oldest_ready test ws) where
       joined : (xs : List Entry) → stations_after older (e ∷ xs) ≡ here ++ stations_after (older ++ e ∷ []) xs
       joined xs = stations_step older e xs ∙ ap (λ l. l ++ stations_after (older ++ e ∷ []) xs) at
 
@@ -136,12 +138,14 @@ module _ (kind : Kind) (status0 : RegisterStatus) (n0 : ℕ) where
             ∙ sym (joined (f.before ++ started issue message f.entry ∷ f.rest));
       }
 
-      past : NoneFound (older ++ e ∷ []) es ⊎ Found (older ++ e ∷ []) es → NoneFound older (e ∷ es) ⊎ Found older (e ∷ es)
+      past : NoneFound (older ++ e ∷ []) es ⊎ Found (older ++ e ∷ []) es →
+          NoneFound older (e ∷ es) ⊎ Found older (e ∷ es)
       past (inl n) = inl (none_past n)
       past (inr f) = inr (found_past f)
 
     -- the search from some instruction on
-    pub search_from : (older es : List Entry) → older ++ es ≡ entries → Agree → PassBy → NoneFound older es ⊎ Found older es
+    pub search_from : (older es : List Entry) → older ++ es ≡ entries → Agree → PassBy →
+        NoneFound older es ⊎ Found older es
     search_from older [] all agree pass = inl (record { defined = refl; searched = refl })
     search_from older (e ∷ es) all agree pass =
         let rest = search_from (older ++ e ∷ []) es (append_assoc older (e ∷ []) es ∙ all) agree pass in
@@ -158,7 +162,8 @@ module _ (kind : Kind) (status0 : RegisterStatus) (n0 : ℕ) where
                     rest
                 | inl passes ↦
                     let ws = stations_after (older ++ e ∷ []) es in
-                    let joined : stations_after older (e ∷ es) ≡ w ∷ ws = stations_step older e es ∙ ap (λ l. l ++ ws) there.2 in
+                    let joined : stations_after older (e ∷ es) ≡ w ∷ ws = stations_step older e es
+                    ∙ ap (λ l. l ++ ws) there.2 in
                     inr (record {
                       before = [];
                       prior = older;
@@ -172,7 +177,8 @@ module _ (kind : Kind) (status0 : RegisterStatus) (n0 : ℕ) where
                       defined = rw (sym same ∙ passes) refl;
                       searched = rw (joined, passes) refl;
                       left = λ issue message.
-                          rw (joined, passes) (sym (stations_started older e i es issue message there.1 (waits kind e there.3)));
+                          rw (joined, passes) (sym
+                          (stations_started older e i es issue message there.1 (waits kind e there.3)));
                     })
               ]
         ]

@@ -11,7 +11,8 @@ module _ (issue : Issue) (message : Message) (e : Entry) (rest : List Entry) whe
   e' = started issue message e
 
   -- what holds of each, and of the one that started
-  pub All_started : (P : Entry → Type 0) (before : List Entry) → P e' → All P (before ++ e ∷ rest) → All P (before ++ e' ∷ rest)
+  pub All_started : (P : Entry → Type 0) (before : List Entry) → P e' → All P (before ++ e ∷ rest) →
+      All P (before ++ e' ∷ rest)
   All_started P [] here all = All-cons P e' rest here (All-tail P e rest all)
   All_started P (x ∷ before) here all =
       All-cons P x (before ++ e' ∷ rest) (All-head P x (before ++ e ∷ rest) all)
@@ -44,7 +45,8 @@ All-pending : (P : PendingResult → Type 0) (n : ℕ) (stage : Stage) (rs : Lis
 All-pending P n (Running issue message) rs here rest = All-cons P _ rs (here _ refl) rest
 All-pending P n _ rs here rest = rest
 
-pending-below : (n m : ℕ) (xs : List Entry) → n + length xs ≤ m → All (λ (r : PendingResult). r.seq < m) (pending_from n xs)
+pending-below : (n m : ℕ) (xs : List Entry) → n + length xs ≤ m →
+    All (λ (r : PendingResult). r.seq < m) (pending_from n xs)
 pending-below n m [] le = λ k d within. absurd (omega arith)
 pending-below n m (x ∷ xs) le =
     All-pending (λ r. r.seq < m) n x.stage (pending_from (n + 1) xs) (λ r is. omega (arith, is, le))
@@ -71,12 +73,14 @@ holds-apart m (r ∷ rs) apart =
     rw (ne_eqb r.seq m (All-head (λ (z : PendingResult). z.seq ≢ m) r rs apart))
     (holds-apart m rs (All-tail (λ (z : PendingResult). z.seq ≢ m) r rs apart))
 
-length-pending_of : (n : ℕ) (stage : Stage) (rs : List PendingResult) → length (pending_of n stage ++ rs) ≤ 1 + length rs
+length-pending_of : (n : ℕ) (stage : Stage) (rs : List PendingResult) →
+    length (pending_of n stage ++ rs) ≤ 1 + length rs
 length-pending_of n stage rs = grind arith
 
 length-pending : (n : ℕ) (xs : List Entry) → length (pending_from n xs) ≤ length xs
 length-pending n [] = omega arith
-length-pending n (x ∷ xs) = omega (arith, length-pending_of n x.stage (pending_from (n + 1) xs), length-pending (n + 1) xs)
+length-pending n (x ∷ xs) =
+    omega (arith, length-pending_of n x.stage (pending_from (n + 1) xs), length-pending (n + 1) xs)
 
 pending_waiting : (n : ℕ) (stage : Stage) → is_waiting stage ≡ true → pending_of n stage ≡ []
 pending_waiting n stage waits = grind arith
@@ -88,12 +92,17 @@ module _ (e : Entry) (rest : List Entry) (waits : is_waiting e.stage ≡ true) w
       grind (arith, pending_from-append n before (e ∷ rest), pending_waiting (n + length before) e.stage waits)
 
   -- there is room for the result of an instruction that waits
-  pub pending_room : (n : ℕ) (before : List Entry) → length (pending_from n (before ++ e ∷ rest)) < length (before ++ e ∷ rest)
+  pub pending_room : (n : ℕ) (before : List Entry) → length (pending_from n (before ++ e ∷ rest))
+      < length (before ++ e ∷ rest)
   pending_room n [] =
       let none = ap (λ l. length (l ++ pending_from (n + 1) rest)) (pending_waiting n e.stage waits) in
       omega (arith, none, length-pending (n + 1) rest)
   pending_room n (x ∷ before) =
-      omega (arith, length-pending_of n x.stage (pending_from (n + 1) (before ++ e ∷ rest)), pending_room (n + 1) before)
+      omega (
+        arith,
+        length-pending_of n x.stage (pending_from (n + 1) (before ++ e ∷ rest)),
+        pending_room (n + 1) before,
+      )
 
   module _ (n : ℕ) (before : List Entry) where
     abbrev number : ℕ
@@ -114,6 +123,7 @@ module _ (e : Entry) (rest : List Entry) (waits : is_waiting e.stage ≡ true) w
         ≡ pending_from n (before ++ started issue message e ∷ rest)
     pending_started issue message =
         ap (placed (record { seq = number; ready = issue.cycle + issue.cost })) (pending_split n before)
-        ∙ placed-between _ (pending_from n before) (pending_from (number + 1) rest) (pending-below n number before (omega arith))
+        ∙ placed-between _ (pending_from n before) (pending_from (number + 1) rest)
+        (pending-below n number before (omega arith))
         (pending-above (number + 1) number rest (omega arith))
         ∙ sym (pending_from-append n before (started issue message e ∷ rest))

@@ -9,13 +9,15 @@ use Rattle.rv_core.proofs.Words.{is_known_before}
 abbrev seq_of : Store → ℕ
 seq_of s = s.seq
 
-pub stores_of-append : (n : ℕ) (xs ys : List Entry) → stores_of n (xs ++ ys) ≡ stores_of n xs ++ stores_of (n + length xs) ys
+pub stores_of-append : (n : ℕ) (xs ys : List Entry) → stores_of n (xs ++ ys) ≡ stores_of n xs
+    ++ stores_of (n + length xs) ys
 stores_of-append n [] ys = ap (λ m. stores_of m ys) (omega arith)
 stores_of-append n (e ∷ xs) ys =
     grind (arith, stores_of-append (n + 1) xs ys)
 
 -- a list with one more, where it is a store
-pub All-one : (P : Store → Type 0) (b : Bool) (s : Store) (xs : List Store) → P s → All P xs → All P (cond b (s ∷ xs) xs)
+pub All-one : (P : Store → Type 0) (b : Bool) (s : Store) (xs : List Store) → P s → All P xs →
+    All P (cond b (s ∷ xs) xs)
 All-one P true s xs here rest = All-cons P s xs here rest
 All-one P false s xs here rest = rest
 
@@ -23,14 +25,16 @@ All-one P false s xs here rest = rest
 pub stores_of-below : (n m : ℕ) (xs : List Entry) → n + length xs ≤ m → AreBelow seq_of m (stores_of n xs)
 stores_of-below n m [] le = λ k d within. absurd (omega arith)
 stores_of-below n m (e ∷ xs) le =
-    All-one (λ s. s.seq < m) (is_store e.instruction) (record { seq = n; state = store_of_broadcast (broadcast_of e.stage) })
+    All-one (λ s. s.seq < m) (is_store e.instruction)
+    (record { seq = n; state = store_of_broadcast (broadcast_of e.stage) })
     (stores_of (n + 1) xs) (omega arith) (stores_of-below (n + 1) m xs (omega arith))
 
 -- none is before the first
 pub stores_of-from : (n m : ℕ) (xs : List Entry) → m ≤ n → All (λ s. m ≤ s.seq) (stores_of n xs)
 stores_of-from n m [] le = λ k d within. absurd (omega arith)
 stores_of-from n m (e ∷ xs) le =
-    All-one (λ s. m ≤ s.seq) (is_store e.instruction) (record { seq = n; state = store_of_broadcast (broadcast_of e.stage) })
+    All-one (λ s. m ≤ s.seq) (is_store e.instruction)
+    (record { seq = n; state = store_of_broadcast (broadcast_of e.stage) })
     (stores_of (n + 1) xs) le (stores_of-from (n + 1) m xs (omega arith))
 
 -- whether all are known before a number that stands between two lists of stores
@@ -38,13 +42,21 @@ stores_of-from n m (e ∷ xs) le =
 known_from : (m : ℕ) (ys : List Store) → All (λ s. m ≤ s.seq) ys → is_known_before (first_unknown ys) m ≡ true
 known_from m [] high = refl
 known_from m (y ∷ ys) high =
-    grind (arith, le-ltb y.seq m (All-head (λ s. m ≤ s.seq) y ys high), known_from m ys (All-tail (λ s. m ≤ s.seq) y ys high))
+    grind (
+      arith,
+      le-ltb y.seq m (All-head (λ s. m ≤ s.seq) y ys high),
+      known_from m ys (All-tail (λ s. m ≤ s.seq) y ys high),
+    )
 
 known_before : (m : ℕ) (xs ys : List Store) → AreBelow seq_of m xs → All (λ s. m ≤ s.seq) ys →
     is_known_before (first_unknown (xs ++ ys)) m ≡ list_all is_known_store xs
 known_before m [] ys low high = known_from m ys high
 known_before m (x ∷ xs) ys low high =
-    grind (arith, lt-ltb x.seq m (AreBelow-head seq_of m x xs low), known_before m xs ys (AreBelow-tail seq_of m x xs low) high)
+    grind (
+      arith,
+      lt-ltb x.seq m (AreBelow-head seq_of m x xs low),
+      known_before m xs ys (AreBelow-tail seq_of m x xs low) high,
+    )
 
 module _ (h : Hardware) (retired : AreBelow seq_of h.rob.retired h.committed) (older rest : List Entry) where
   abbrev place : ℕ

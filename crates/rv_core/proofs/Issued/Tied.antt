@@ -40,7 +40,8 @@ module _ {h : Hardware} {kind : Kind} {ready : Ready} (leaving : Leaving h kind 
   room_on_bus tied within =
       let fits : length (pending_from h.rob.retired h.rob.entries) < h.values.rob =
       rw leaving.split
-      (omega (arith, pending_room e leaving.rest waiting h.rob.retired leaving.before, ap length leaving.split, within)) in
+      (omega (arith, pending_room e leaving.rest waiting h.rob.retired leaving.before, ap length leaving.split, within))
+      in
       rw tied fits
 
   -- an instruction that waits has no result on the bus
@@ -76,7 +77,8 @@ module _ {h : Hardware} {kind : Kind} {ready : Ready} (leaving : Leaving h kind 
         }) in
         ap (λ s. with_kind kind (taken_from test (at_kind kind s)) s) tied
         ∙ ap (λ p. with_kind kind p (stations_of h.values h.registers h.rob)) own
-        ∙ with_kind-by_kind kind (pool_of_kind h.values h.registers h.rob) (pool_of_kind h.values h.registers rob_started)
+        ∙ with_kind-by_kind kind (pool_of_kind h.values h.registers h.rob)
+        (pool_of_kind h.values h.registers rob_started)
         (λ k other.
         let away : is_stationed k e
         ≡ false = and_right (is_waiting e.stage) (is_of_kind k (kind_of_word e.instruction))
@@ -93,7 +95,8 @@ module _ {h : Hardware} {kind : Kind} {ready : Ready} (leaving : Leaving h kind 
         let n0 = h.rob.retired in
         let results : placed (record { seq = n; ready = issue.cycle + issue.cost }) (pending_from n0 h.rob.entries)
         ≡ pending_from n0 rob_started.entries =
-        (λ j. placed (record { seq = leaving.number j; ready = issue.cycle + issue.cost }) (pending_from n0 (leaving.split j)))
+        (λ j. placed (record { seq = leaving.number j; ready = issue.cycle + issue.cost })
+        (pending_from n0 (leaving.split j)))
         ∙ pending_started e leaving.rest waiting n0 leaving.before issue message
         ∙ ap (pending_from n0) (sym entries_started) in
         ap (with_result n (issue.cycle + issue.cost)) tied
@@ -113,7 +116,8 @@ module _ {h : Hardware} {kind : Kind} {ready : Ready} (leaving : Leaving h kind 
       -- the parts of which it has left the stations are tied to the hardware that has started it
       pub tied_started : {rename : Renaming} {stations : PerKind Pool} {bus : Pending} {queue : Queue} →
           AreTied h rename stations bus queue →
-          AreTied hardware_started rename (with_kind kind (taken_from (test_of h kind) (at_kind kind stations)) stations)
+          AreTied hardware_started rename
+          (with_kind kind (taken_from (test_of h kind) (at_kind kind stations)) stations)
           (with_result n (issue.cycle + issue.cost) bus) queue
       tied_started {stations = stations} {bus = bus} tied = record {
         renamed = tied.renamed ∙ sym (renaming-same (started issue message) (λ x. refl) n h.values h.rob);
@@ -126,11 +130,17 @@ module _ {h : Hardware} {kind : Kind} {ready : Ready} (leaving : Leaving h kind 
           IsLegalWrite h.values (is_store e.instruction) message.fault message.store →
           AreSoundEntries h.values h.cycle rob_started
       entries_sound sound legal =
-          let each : All (IsSoundEntry h.values) (leaving.before ++ e ∷ leaving.rest) = rw (← leaving.split) sound.each in
+          let each : All (IsSoundEntry h.values) (leaving.before ++ e ∷ leaving.rest) =
+          rw (← leaving.split) sound.each in
           let own = entry_sound sound.each in
           record {
             capacity = sound.capacity;
-            within = omega (arith, sound.within, length-with_entry (started issue message) n h.rob.retired h.rob.entries);
+            within = omega (
+              arith,
+              sound.within,
+              length-with_entry (started issue message) n
+                  h.rob.retired h.rob.entries,
+            );
             numbers = sound.numbers;
             each = rw entries_started
                 (All_started issue message e leaving.rest (IsSoundEntry h.values) leaving.before

@@ -24,7 +24,8 @@ module _ (values : Values) where
   retired_inside (store.Filled access Draining) sound = (sound.from_base, sound.to_end)
   retired_inside _ sound = absurd sound
 
-  write_inside : (is : Bool) (fault : Option Fault) (access : Option StoreAccess) → IsLegalWrite values is fault access →
+  write_inside : (is : Bool) (fault : Option Fault) (access : Option StoreAccess) →
+      IsLegalWrite values is fault access →
       LiesIn base size (store_of_message access)
   write_inside is fault None legal = tt
   write_inside true None (Some access) legal = (legal.from_base, legal.to_end)
@@ -50,7 +51,8 @@ module _ (values : Values) where
   committed_inside ss sound k d within = retired_inside _ (sound k d within)
 
 -- the stores older than an instruction lie in RAM
-pub inside_after : (h : Hardware) (older : List Entry) → All (λ (s : QueuedStore). IsRetiredStore h.values s.state) h.committed →
+pub inside_after : (h : Hardware) (older : List Entry) →
+    All (λ (s : QueuedStore). IsRetiredStore h.values s.state) h.committed →
     All (IsSoundEntry h.values) older → LieIn h.values.ram_base h.values.ram_size (stores_after h older)
 inside_after h older committed sound =
     All-append (λ (t : QueuedStore). LiesIn h.values.ram_base h.values.ram_size t.state) h.committed
@@ -73,7 +75,8 @@ module _ (values : Values) (s : State) (width : Width) (address word : ℕ) wher
   store_by_fault : (fault : Option Cause) → store_fault (layout_of values) address (bytes_of width) ≡ fault →
       writes_legally values true (effect_message (Some access) (stores (layout_of values) s width address word))
   store_by_fault (Some cause) is =
-      subst (writes_legally values true) (sym (store_faults (layout_of values) address s width word (Some access) cause is)) tt
+      subst (writes_legally values true)
+      (sym (store_faults (layout_of values) address s width word (Some access) cause is)) tt
   store_by_fault None is =
       let within = store_within (layout_of values) address (bytes_of width) is in
       let long : length (bytes_of_number (bytes_of width) word) ≡ bytes_of width = grind arith in

@@ -22,7 +22,8 @@ module _ (ram below : List ℕ) (ss : List Store) (address place : ℕ) where
   abbrev pub IsByte : ℕ → Type 0
   IsByte k = get_or ram (place + k) 0 ≡ unwrap_or (youngest_byte (address + k) ss) (get_or below k 0)
 
-  byte_at : (i k : ℕ) → i ≡ place + k → IsByte k → get_or ram i 0 ≡ unwrap_or (youngest_byte (address + k) ss) (get_or below k 0)
+  byte_at : (i k : ℕ) → i ≡ place + k → IsByte k →
+      get_or ram i 0 ≡ unwrap_or (youngest_byte (address + k) ss) (get_or below k 0)
   byte_at i k is byte = ap (λ j. get_or ram j 0) is ∙ byte
 
   pub bytes_laid : (width : Width) → place + bytes_of width ≤ length ram → ((k : ℕ) → k < bytes_of width → IsByte k) →
@@ -60,7 +61,8 @@ module _ (base size : ℕ) (ss : List Store) (bytes : List ℕ) (sized : length 
       ∙ ap (λ i. unwrap_or (youngest_byte (address + k) ss) (get_or bytes i 0)) (sym at)
 
   -- the stores forward every byte
-  pub bytes_from_stores : (below : List ℕ) → is_forwarded (forwarded ss address (bytes_of width)) (bytes_of width) ≡ true →
+  pub bytes_from_stores : (below : List ℕ) →
+      is_forwarded (forwarded ss address (bytes_of width)) (bytes_of width) ≡ true →
       slice_range ram place (place + bytes_of width)
       ≡ take (bytes_of width) (bytes_over (forwarded ss address (bytes_of width)) below)
   bytes_from_stores below all =

@@ -15,10 +15,12 @@ module _ (layout : Layout) (address : ℕ) where
   load_faults s form rd cause is = grind arith
 
   -- without a fault a load gives the number at its address, extended
-  pub load_gives : (s : State) (form : LoadForm) (rd : ℕ) → load_fault layout address (bytes_of (width_of form)) ≡ None →
+  pub load_gives : (s : State) (form : LoadForm) (rd : ℕ) →
+      load_fault layout address (bytes_of (width_of form)) ≡ None →
       effect_message None (loads layout s form rd address)
       ≡ effect_message None (writes s rd
-      (extended (is_sign_extended form) (bytes_of (width_of form)) (number_at layout s.ram address (bytes_of (width_of form))))
+      (extended (is_sign_extended form) (bytes_of (width_of form))
+      (number_at layout s.ram address (bytes_of (width_of form))))
       (pc_plus_4 s.pc))
   load_gives s form rd is = grind arith
 
@@ -54,7 +56,8 @@ aligned_width width address is = grind arith
 -- of a path: its fault, or its bytes from the stores, which are all or not
 abbrev pub PathFacts : Option Cause → List (Option ℕ) → ℕ → Path → Type 0
 PathFacts fault overlay count (Without cause) = fault ≡ Some cause
-PathFacts fault overlay count (FromStores found) = (fault ≡ None) × (found ≡ overlay) × (is_forwarded overlay count ≡ true)
+PathFacts fault overlay count (FromStores found) = (fault ≡ None) × (found ≡ overlay)
+    × (is_forwarded overlay count ≡ true)
 PathFacts fault overlay count (FromCache found) = (fault ≡ None) × (found ≡ overlay)
 
 -- so it is of the path that is found

@@ -17,7 +17,8 @@ found layout ss address count path is =
     (path_facts (load_fault layout address count) (forwarded ss address count) count)
 
 -- a load that faults gives its fault
-pub from_fault : (cache : Contents Memory) (ss : List Store) (s : State) (form : LoadForm) (rd address : ℕ) (cause : Cause) →
+pub from_fault : (cache : Contents Memory) (ss : List Store) (s : State) (form : LoadForm)
+    (rd address : ℕ) (cause : Cause) →
     path_of cache.backing.layout ss address (bytes_of (width_of form)) ≡ Without cause →
     fault_message cause address ≡ effect_message None (loads cache.backing.layout s form rd address)
 from_fault cache ss s form rd address cause is =

@@ -7,7 +7,8 @@ use Rattle.rv_core.specs.declared.load.Path.{Path}
 
 -- the code's path of a load is the definition's
 pub path_is_defined : (h : Hardware) (older : List Entry) (address count : ℕ) →
-    defined_path address (path_of (layout_of h.values) (stores_after h older) address count) ≡ path_of_load h older address count
+    defined_path address (path_of (layout_of h.values) (stores_after h older) address count)
+    ≡ path_of_load h older address count
 path_is_defined h older address count = grind arith
 
 -- what the port lets pass

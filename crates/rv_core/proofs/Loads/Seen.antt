@@ -30,15 +30,18 @@ module _ (h : Hardware) (sound : IsSoundHardware h) (address : ℕ) where
 
   -- in RAM it is the youngest store's, or the cache's
   pub some_inside : IsCached h.cache address → (n : ℕ) →
-      n ≡ unwrap_or (youngest_byte address h.committed) (get_or h.cache.bytes (address - h.cache.base) 0) → Some n ≡ byte
+      n ≡ unwrap_or (youngest_byte address h.committed) (get_or h.cache.bytes (address - h.cache.base) 0) →
+      Some n ≡ byte
   some_inside cached n is =
       ap (λ m. Some m) (is ∙ ap
       (λ b. unwrap_or (youngest_byte address h.committed) (get_or h.cache.bytes (address - b) 0)) sound.cache.base)
       ∙ sym (from_base (omega (arith, cached.0, sound.cache.base))
-      ∙ slice_get-bytes_after h.values.ram_base h.values.ram_size address h.committed h.cache.bytes sound.cache.bytes inside
+      ∙ slice_get-bytes_after h.values.ram_base h.values.ram_size address h.committed h.cache.bytes
+      sound.cache.bytes inside
       (omega (arith, cached.0, sound.cache.base)) (omega (arith, cached.1, sound.cache.base, sound.cache.bytes)))
 
   -- no byte outside RAM is cached
-  pub outside_by : (Found : Type 0) → IsCached h.cache address → is_in_ram (layout_of h.values) address 1 ≡ false → Found
+  pub outside_by : (Found : Type 0) → IsCached h.cache address → is_in_ram (layout_of h.values) address 1 ≡ false →
+      Found
   outside_by Found cached outside =
       absurd (grind (arith, and_from, sound.cache.base, sound.cache.bytes))

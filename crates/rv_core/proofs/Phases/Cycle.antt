@@ -37,7 +37,8 @@ module _ (lines : Lines) (old committed : Hardware) (width : 1 ≤ old.values.co
         stop ≡ committing.stop
         → FetchesInto answers dispatched.cache.backing dispatched.cycle dispatched.front new.front why →
         new ≡ record dispatched { front = new.front }
-        → IsCycle answers lines old (report_with committing.steps (record { dispatched = count; stall = stall; stop = stop }))
+        → IsCycle answers lines old
+        (report_with committing.steps (record { dispatched = count; stall = stall; stop = stop }))
         (record new { cycle = old.cycle + 1 })
     cycle-done answers new why count stall stop counts stalls stops fetches others = record {
       committing = committing;
@@ -46,9 +47,11 @@ module _ (lines : Lines) (old committed : Hardware) (width : 1 ≤ old.values.co
       executes = refl;
       fetch_stop = why;
       fetches =
-          subst (λ (n : ℕ). FetchesInto answers executing.hardware.cache.backing n executing.hardware.front new.front why)
+          subst (λ (n : ℕ). FetchesInto answers executing.hardware.cache.backing n
+          executing.hardware.front new.front why)
           dispatched-now
-          (subst (λ (h : Hardware). FetchesInto answers h.cache.backing dispatched.cycle h.front new.front why) dispatched-is
+          (subst (λ (h : Hardware). FetchesInto answers h.cache.backing dispatched.cycle h.front
+          new.front why) dispatched-is
           fetches);
       others_stay = ap {A = Hardware} (λ h. record h { cycle = old.cycle + 1 })
           (others ∙ ap {A = Hardware} (λ h. record h { front = new.front }) dispatched-is);

@@ -31,7 +31,11 @@ first_idle : (seq : ℕ) (is_store : Bool) (message : Option Message) (ss : List
     NoneDrains (if is_store then record { seq = seq; state = store_of_broadcast message } ∷ ss else ss)
 first_idle seq false message ss none = none
 first_idle seq true message ss none =
-    record { stays = rw ((in_flight seq message).0) refl; idle = (in_flight seq message).1; rests = (in_flight seq message).0 }
+    record {
+      stays = rw ((in_flight seq message).0) refl;
+      idle = (in_flight seq message).1;
+      rests = (in_flight seq message).0;
+    }
 
 -- no store of an instruction in flight drains
 pub none_drains : (seq : ℕ) (es : List Entry) → NoneDrains (stores_of seq es)
@@ -48,7 +52,8 @@ without_drained_after [] flight none = none.stays
 without_drained_after (s ∷ ss) flight none = grind arith
 
 -- the oldest store to drain is one of the retired ones, whatever is in flight after them
-pub oldest_after : (ss flight : List QueuedStore) → NoneDrains flight → oldest_to_drain (ss ++ flight) ≡ oldest_to_drain ss
+pub oldest_after : (ss flight : List QueuedStore) → NoneDrains flight →
+    oldest_to_drain (ss ++ flight) ≡ oldest_to_drain ss
 oldest_after [] flight none = none.idle
 oldest_after (s ∷ ss) flight none = refl
 

@@ -75,12 +75,14 @@ module _ (p : Inside) (h : Hardware) (view : hardware_of p ≡ h) where
       ∙ sym (ap (λ x. GoesOn (dispatching x (dispatched + 1))) is)
 
 -- the parts without the oldest fetched word are sound
-pub sound-taken : (p : Inside) (front : FetchBuffer) → IsSound p → front ≡ record p.front { entries = drop 1 p.front.entries } →
+pub sound-taken : (p : Inside) (front : FetchBuffer) → IsSound p →
+    front ≡ record p.front { entries = drop 1 p.front.entries } →
     IsSound (record p { front = front })
 sound-taken p front is rest =
     sound_with_front p front is (rw rest (All-drop IsDecoded 1 p.front.entries is.sound.fetched))
 
-module _ {p : Inside} (f : Fetched) (is : IsSound p) (waits_not : reason_of (hardware_of p) f ≡ None) (decoded : IsDecoded f)
+module _ {p : Inside} (f : Fetched) (is : IsSound p) (waits_not : reason_of (hardware_of p) f ≡ None)
+    (decoded : IsDecoded f)
     (target : IfSome (target_of_word f.instruction) (λ register. register < 32)) where
   -- the parts with the instruction of a fetched word
   abbrev pub entered_parts : Inside
@@ -100,11 +102,13 @@ module _ {p : Inside} (f : Fetched) (is : IsSound p) (waits_not : reason_of (har
   -- the parts with it stand for the hardware with it
   pub entered-is : hardware_of entered_parts ≡ entered_to
   entered-is =
-      closed-is entered_parts entered_to refl (tied-dispatched (hardware_of p) f p.rename p.stations p.bus p.stores is.tied)
+      closed-is entered_parts entered_to refl
+      (tied-dispatched (hardware_of p) f p.rename p.stations p.bus p.stores is.tied)
       (sound-dispatched (hardware_of p) f is.sound waits_not decoded target)
 
   -- and are sound
   pub entered-sound : IsSound entered_parts
   entered-sound =
-      closed-sound entered_parts entered_to refl (tied-dispatched (hardware_of p) f p.rename p.stations p.bus p.stores is.tied)
+      closed-sound entered_parts entered_to refl
+      (tied-dispatched (hardware_of p) f p.rename p.stations p.bus p.stores is.tied)
       (sound-dispatched (hardware_of p) f is.sound waits_not decoded target) is.stale_base is.stale_size

@@ -3,7 +3,8 @@ use Rattle.rv_core.proofs.Words.{◌≡◌, ◌≤◌, false, List, length, All,
 use Rattle.rv_core.proofs.Words.{Hardware, IsDecoded, IsSoundEntry, IsSoundHardware}
 
 -- sound instructions and decoded words in place of others leave sound hardware
-pub sound_in_flight : (h : Hardware) (es : List Entry) (front : FetchBuffer) → IsSoundHardware h → length es ≤ h.values.rob →
+pub sound_in_flight : (h : Hardware) (es : List Entry) (front : FetchBuffer) → IsSoundHardware h →
+    length es ≤ h.values.rob →
     All (IsSoundEntry h.values) es
     → AllPairs (λ older younger. is_serialising older.instruction ≡ false) es → All IsDecoded front.entries
     → IsSoundHardware (record h { rob = record h.rob { entries = es }; front = front })

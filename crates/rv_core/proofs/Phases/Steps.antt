@@ -36,7 +36,8 @@ module _ (now : ℕ) where
 
   breakpoint : (cause : Cause) → IsCommitStop (stop_of cause)
   breakpoint cause =
-      elim (is_breakpoint_cause cause) as (λ b. IsCommitStop (cond b (Some stop.Breakpoint) None)) [ true ↦ tt | false ↦ tt ]
+      elim (is_breakpoint_cause cause) as (λ b. IsCommitStop (cond b (Some stop.Breakpoint) None))
+      [ true ↦ tt | false ↦ tt ]
 
   module _ (is_stale : set.FinSet nat_cmp → ℕ → Bool) where
     -- a turn takes one step at most
@@ -54,7 +55,8 @@ module _ (now : ℕ) where
         stepped taken most c _ (step.Trap e.pc fault.cause fault.value c.hardware.cycle) less refl refl
         (breakpoint fault.cause) is
     turn-commits most taken c _ less (retires e es issue cycle message head plain at none) is =
-        stepped taken (suc taken) c _ (row_of e (written_of e message) c.hardware.cycle) (omega arith) refl refl is.stop is
+        stepped taken (suc taken) c _ (row_of e (written_of e message) c.hardware.cycle)
+        (omega arith) refl refl is.stop is
     turn-commits most taken c _ less (retires_last e es issue cycle message head plain at none) is =
         stepped taken most c _ (row_of e (written_of e message) c.hardware.cycle) less refl refl is.stop is
     turn-commits most taken c _ less _ is = stays taken most c _ less refl refl is.stop is

@@ -10,7 +10,8 @@ abbrev pub with_cache : Contents Memory → List QueuedStore → ℕ → Hardwar
 with_cache cache committed port h = record h { cache = cache; committed = committed; port_free = port }
 
 -- such hardware is sound, with a described cache and retired stores
-pub sound_with_cache : {h : Hardware} {cache : Contents Memory} {committed : List QueuedStore} {port : ℕ} → IsSoundHardware h →
+pub sound_with_cache : {h : Hardware} {cache : Contents Memory} {committed : List QueuedStore} {port : ℕ} →
+    IsSoundHardware h →
     IsDescribedCache h.values cache → AreRetired h.values committed →
     AreBelow (λ (s : QueuedStore). s.seq) h.rob.retired committed →
     port ≤ 2 ^ 43 → IsSoundHardware (with_cache cache committed port h)
@@ -37,12 +38,19 @@ module _ {parts : Inside} {cache : Contents Memory} {committed : List QueuedStor
   next = with_cache cache committed port (hardware_of parts)
 
   tied : AreTied next parts.rename parts.stations parts.bus stores
-  tied = record { renamed = before.tied.renamed; stationed = before.tied.stationed; pending = before.tied.pending; queued = is }
+  tied = record {
+    renamed = before.tied.renamed;
+    stationed = before.tied.stationed;
+    pending = before.tied.pending;
+    queued = is;
+  }
 
   -- the parts stand for the hardware so changed
-  pub view_with_cache : hardware_of (with_parts cache stores port parts) ≡ with_cache cache committed port (hardware_of parts)
+  pub view_with_cache : hardware_of (with_parts cache stores port parts)
+      ≡ with_cache cache committed port (hardware_of parts)
   view_with_cache = closed-is (with_parts cache stores port parts) next refl tied sound
 
   -- and are sound
   pub parts_with_cache : IsSound (with_parts cache stores port parts)
-  parts_with_cache = closed-sound (with_parts cache stores port parts) next refl tied sound before.stale_base before.stale_size
+  parts_with_cache = closed-sound (with_parts cache stores port parts) next refl tied sound
+      before.stale_base before.stale_size

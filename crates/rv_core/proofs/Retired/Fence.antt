@@ -6,7 +6,8 @@ use Rattle.rv_core.proofs.Words.{with_write_back, write_back_time, Hardware, sto
 use Rattle.rv_core.proofs.Words.{IsSoundHardware, queue_of}
 
 -- nothing stands after a serialising head
-alone : (e : Entry) (es : List Entry) → AllPairs (λ (older younger : Entry). is_serialising older.instruction ≡ false) (e ∷ es) →
+alone : (e : Entry) (es : List Entry) →
+    AllPairs (λ (older younger : Entry). is_serialising older.instruction ≡ false) (e ∷ es) →
     is_serialising e.instruction ≡ true → es ≡ []
 alone e [] serial is = refl
 alone e (x ∷ xs) serial is = absurd (true≢false (sym is ∙ serial 0 1 e (omega arith) (omega arith)))
@@ -41,7 +42,8 @@ not_with_stores h ss some = grind arith
 not_while_busy : (h : Hardware) (ss : List QueuedStore) → nat_le h.port_free h.cycle ≡ false → drained_with h ss ≡ false
 not_while_busy h ss busy = grind arith
 
-when_empty : (h : Hardware) (ss : List QueuedStore) → ss ≡ [] → nat_le h.port_free h.cycle ≡ true → drained_with h ss ≡ true
+when_empty : (h : Hardware) (ss : List QueuedStore) → ss ≡ [] → nat_le h.port_free h.cycle ≡ true →
+    drained_with h ss ≡ true
 when_empty h ss none idle = grind arith
 
 -- FENCE.I waits while a retired store does
@@ -55,7 +57,8 @@ pub fence_waits_for_port : (h : Hardware) (e : Entry) (steps : List Step) → na
 fence_waits_for_port h e steps busy = rw (not_while_busy h h.committed busy) refl
 
 -- FENCE.I waits while the cache is written back
-pub fence_waits_for_cache : (h : Hardware) (e : Entry) (steps : List Step) → h.committed ≡ [] → nat_le h.port_free h.cycle ≡ true →
+pub fence_waits_for_cache : (h : Hardware) (e : Entry) (steps : List Step) → h.committed ≡ [] →
+    nat_le h.port_free h.cycle ≡ true →
     (write_back_time h == 0) ≡ false →
     fence_instructions e (committing h steps) ≡ committing (with_write_back h) steps
 fence_waits_for_cache h e steps none idle lasts = rw (when_empty h h.committed none idle, lasts) refl
@@ -65,7 +68,8 @@ pub takes_time : (h : Hardware) (time : ℕ) → time ≡ write_back_time h → 
 takes_time h time is some = ne_eqb (write_back_time h) 0 (λ none. absurd (omega (arith, is, some, none)))
 
 -- FENCE.I retires where there are none
-pub fence_retires : (h : Hardware) (e : Entry) (steps : List Step) → h.committed ≡ [] → nat_le h.port_free h.cycle ≡ true →
+pub fence_retires : (h : Hardware) (e : Entry) (steps : List Step) → h.committed ≡ [] →
+    nat_le h.port_free h.cycle ≡ true →
     (write_back_time h == 0) ≡ true →
     fence_instructions e (committing h steps) ≡ execute_head e FenceI (committing (with_write_back h) steps)
 fence_retires h e steps none idle lasts = rw (when_empty h h.committed none idle, lasts) refl

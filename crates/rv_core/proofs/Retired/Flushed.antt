@@ -29,7 +29,8 @@ pub tied_when_flushed : (h : Hardware) (pc : ℕ) (registers : List ℕ) (rob : 
     (stations : PerKind Pool) (bus : Pending) (queue : Queue) →
     AreTied h rename stations bus queue → AreRetired h.values h.committed →
     AreTied (flushed (record h { pc = pc; registers = registers; rob = rob })) (cleared rename)
-    (for_each (squashed_pool 0) stations) (squashed_bus 0 bus) (record queue { stores = filter is_committed queue.stores })
+    (for_each (squashed_pool 0) stations) (squashed_bus 0 bus)
+    (record queue { stores = filter is_committed queue.stores })
 tied_when_flushed h pc registers rob rename stations bus queue tied are = record {
   renamed =
       ap cleared tied.renamed
@@ -43,7 +44,8 @@ tied_when_flushed h pc registers rob rename stations bus queue tied are = record
       (none_below_0 (λ r. r.seq) (bus_of h.values h.rob).results);
   queued =
       ap (λ (q : Queue). record q { stores = filter is_committed q.stores }) tied.queued
-      ∙ ap (λ l. record { stores = l; capacity = h.values.store_queue }) (retired_of_queue h are ∙ sym (append-nil h.committed));
+      ∙ ap (λ l. record { stores = l; capacity = h.values.store_queue }) (retired_of_queue h are
+      ∙ sym (append-nil h.committed));
 }
 
 -- flushed hardware is sound

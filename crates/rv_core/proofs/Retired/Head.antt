@@ -25,7 +25,8 @@ written_status : (registers : List ℕ) (seq r : ℕ) (m : Message) → r ≢ 0 
 written_status registers seq r m positive within register =
     grind (arith, ne_eqb, eq-eqb, get_or-set_same, get_or-set_other)
 
-head_status : (registers : List ℕ) (seq : ℕ) (target : Option ℕ) (m : Message) → IsTarget registers target → (register : ℕ) →
+head_status : (registers : List ℕ) (seq : ℕ) (target : Option ℕ) (m : Message) → IsTarget registers target →
+    (register : ℕ) →
     (if is_target register target then operand_by seq (Some m) else values_in registers register)
     ≡ values_in (with_value registers target (Some m)) register
 head_status registers seq None m ok register = refl
@@ -68,9 +69,11 @@ oldest_goes r seq ps = rw (eq-eqb seq seq refl, eq-eqb r r refl) refl
 abbrev noted : Bool → ℕ → List Producer → List Checkpoint → List Checkpoint
 noted is_jump n ps cs = if is_jump then record { seq = n; producers = ps } ∷ cs else cs
 
-noted_without : (r seq n : ℕ) (ps : List Producer) (cs kept : List Checkpoint) → map (checkpoint_without_oldest r seq) cs ≡ kept →
+noted_without : (r seq n : ℕ) (ps : List Producer) (cs kept : List Checkpoint) →
+    map (checkpoint_without_oldest r seq) cs ≡ kept →
     (is_jump : Bool) →
-    map (checkpoint_without_oldest r seq) (noted is_jump n (record { register = r; seq = seq } ∷ ps) cs) ≡ noted is_jump n ps kept
+    map (checkpoint_without_oldest r seq) (noted is_jump n (record { register = r; seq = seq } ∷ ps) cs)
+    ≡ noted is_jump n ps kept
 noted_without r seq n ps cs kept e is_jump = grind (arith, oldest_goes)
 
 -- the checkpoints after a producer that retires no longer hold it
@@ -87,7 +90,8 @@ younger_stay : (seq : ℕ) (older : List Producer) (n : ℕ) (es : List Entry) �
 younger_stay seq older n [] lt = refl
 younger_stay seq older n (e ∷ es) lt = grind (arith, ne_eqb, younger_stay seq (producers_with older n e) (n + 1) es)
 
-noted_goes : (seq : ℕ) (ps : List Producer) (cs : List Checkpoint) → filter (λ c. not (seq == c.seq)) cs ≡ cs → (is_jump : Bool) →
+noted_goes : (seq : ℕ) (ps : List Producer) (cs : List Checkpoint) → filter (λ c. not (seq == c.seq)) cs ≡ cs →
+    (is_jump : Bool) →
     filter (λ c. not (seq == c.seq)) (noted is_jump seq ps cs) ≡ cs
 noted_goes seq ps cs e is_jump = grind (arith, eq-eqb)
 
@@ -123,7 +127,8 @@ renamed_from capacity seq None is_jump es true =
     ap (λ cs. record { capacity = capacity; producers = producers_of (seq + 1) es; checkpoints = cs })
     (noted_goes seq [] (checkpoints_of [] (seq + 1) es) (younger_stay seq [] (seq + 1) es (omega arith)) is_jump)
 renamed_from capacity seq (Some r) is_jump es false =
-    ap (λ ps. record { capacity = capacity; producers = ps; checkpoints = [] }) (oldest_goes r seq (producers_of (seq + 1) es))
+    ap (λ ps. record { capacity = capacity; producers = ps; checkpoints = [] })
+    (oldest_goes r seq (producers_of (seq + 1) es))
 renamed_from capacity seq (Some r) is_jump es true = λ i. record {
   capacity = capacity;
   producers = oldest_goes r seq (producers_of (seq + 1) es) i;
@@ -135,7 +140,8 @@ pub renamed_after_head : (values : Values) (capacity seq : ℕ) (e : Entry) (es 
     (renaming_of values (record { capacity = capacity; retired = seq; entries = e ∷ es })))
     ≡ renaming_of values (record { capacity = capacity; retired = seq + 1; entries = es })
 renamed_after_head values capacity seq e es =
-    renamed_from values.rob seq (target_of_word e.instruction) (is_branch_or_jump e.instruction) es (mends_early values.recovery)
+    renamed_from values.rob seq (target_of_word e.instruction) (is_branch_or_jump e.instruction) es
+    (mends_early values.recovery)
 
 pub stationed_after_head : (values : Values) (registers : List ℕ) (capacity seq : ℕ) (e : Entry) (es : List Entry)
     (m : Message) →
@@ -171,7 +177,8 @@ pub buffer_after : (rob : ReorderBuffer) (e : Entry) (es : List Entry) → rob.e
 buffer_after rob e es is = ap (after_head rob) is
 
 -- a head with its result retires
-pub tied_after_head : (h : Hardware) (e : Entry) (es : List Entry) (m : Message) (rename : Renaming) (stations : PerKind Pool)
+pub tied_after_head : (h : Hardware) (e : Entry) (es : List Entry) (m : Message) (rename : Renaming)
+    (stations : PerKind Pool)
     (bus : Pending) (queue : Queue) →
     AreTied h rename stations bus queue → AreRetired h.values h.committed → h.rob.entries ≡ e ∷ es →
     broadcast_of e.stage ≡ Some m →

@@ -45,13 +45,15 @@ none_committed h old width is undisturbed = record {
 }
 
 -- a turn that ends the phase
-pub committed_whole : (start h : Hardware) (old new : Steps) (done left : ℕ) (before : AreCommitted start h old new done left)
+pub committed_whole : (start h : Hardware) (old new : Steps) (done left : ℕ)
+    (before : AreCommitted start h old new done left)
     (step : Option Step) (turn : HeadTurn) (next : Hardware) (last : Committing) → 0 < left →
     ((steps : List Step) → commit_turn set.contains (committing h steps) ≡ turn_left next steps step turn) →
     turn_left next before.steps step turn ≡ Ends last →
     last ≡ commit set.contains start
 committed_whole start h old new done left before step turn next last some is ends =
-    turned-ends (commit_turn set.contains) (commit set.contains start) left (committing h before.steps) last some before.to_come
+    turned-ends (commit_turn set.contains) (commit set.contains start) left (committing h before.steps)
+    last some before.to_come
     (is before.steps ∙ ends)
 
 -- the step of a turn comes last
@@ -67,14 +69,16 @@ steps_with old before new so_far step taken more =
     subst (Takes old new) (taken_last so_far step) (takes_more so_far (step_taken step) taken more)
 
 -- a turn takes one step at most
-pub few_with : (steps : List Step) (step : Option Step) (done : ℕ) → length steps ≤ done → length (and_step steps step) ≤ done + 1
+pub few_with : (steps : List Step) (step : Option Step) (done : ℕ) → length steps ≤ done →
+    length (and_step steps step) ≤ done + 1
 few_with steps step done few = grind (arith, length-append)
 
 -- a turn after which the phase goes on
 unfoldable pub committed_more : (start h : Hardware) (old new more : Steps) (done left rest : ℕ)
     (before : AreCommitted start h old new done left)
     (step : Option Step) (turn : HeadTurn) (next : Hardware) → left ≡ rest + 1 →
-    ((steps : List Step) → commit_turn set.contains (committing h steps) ≡ turn_left next steps step turn) → turn ≡ GoesOn →
+    ((steps : List Step) → commit_turn set.contains (committing h steps) ≡ turn_left next steps step turn) →
+    turn ≡ GoesOn →
     IsKept h next → Takes new more (step_taken step) → AreCommitted start next old more (done + 1) rest
 committed_more start h old new more done left rest before step turn next another is goes kept takes = record {
   steps = and_step before.steps step;
@@ -90,13 +94,15 @@ committed_more start h old new more done left rest before step turn next another
 }
 
 -- after all turns
-pub committed_all : (start h : Hardware) (old new : Steps) (done left : ℕ) (before : AreCommitted start h old new done left) →
+pub committed_all : (start h : Hardware) (old new : Steps) (done left : ℕ)
+    (before : AreCommitted start h old new done left) →
     left ≡ 0 → committing h before.steps ≡ commit set.contains start
 committed_all start h old new done left before none =
     ap (λ n. repeated (commit_turn set.contains) n (committing h before.steps)) (sym none) ∙ before.to_come
 
 -- before a further turn of a width of eight at most, one more instruction can be counted, and one more step has room
-module _ {start h : Hardware} {old new : Steps} {done left : ℕ} (before : AreCommitted start h old new done left) (few : done < 8) where
+module _ {start h : Hardware} {old new : Steps} {done left : ℕ} (before : AreCommitted start h old new done left)
+    (few : done < 8) where
   -- fewer instructions than eight for each cycle, this one included, have retired so far
   pub few_retired : start.rob.retired ≤ 8 * start.cycle → h.rob.retired < 8 * h.cycle + 8
   few_retired numbers = omega (arith, before.retired, before.cycle, numbers, few)

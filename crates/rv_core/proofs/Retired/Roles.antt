@@ -16,7 +16,8 @@ use Rattle.rv_hardware.specs.Squash.{with_trap}
 use Rattle.rv_core.specs.declared.head.HeadTurn.TheVariants as head
 use Rattle.rv_core.specs.declared.head.Role.TheVariants.{CsrAccess}
 
-first_of : (entries : List Entry) (e : Entry) → slice_get entries 0 ≡ Some e → (younger : List Entry) × (entries ≡ e ∷ younger)
+first_of : (entries : List Entry) (e : Entry) → slice_get entries 0 ≡ Some e →
+    (younger : List Entry) × (entries ≡ e ∷ younger)
 first_of [] e is = absurd (cc)
 first_of (x ∷ xs) e is = (xs, ap (λ l. l ∷ xs) cc)
 
@@ -26,7 +27,8 @@ none_of (e ∷ entries) none = absurd (cc)
 
 -- a turn that ends the phase, takes no step and changes nothing
 pub turn_ends : (h : Hardware) (steps : Steps) (known : Guide) (why : Option Stop) →
-    ((before : List Step) → commit_turn set.contains (committing h before) ≡ Ends (record { hardware = h; steps = before; stop = why })) →
+    ((before : List Step) → commit_turn set.contains (committing h before)
+    ≡ Ends (record { hardware = h; steps = before; stop = why })) →
     IsTurn h h steps steps known known (head.Ends why)
 turn_ends h steps known why left = record { step = None; left = left; taken = takes_none steps; learns = refl }
 
@@ -64,7 +66,8 @@ kept_from h now next before rob after = record {
 -- a serialising head that retires, with a pc and registers, and flushes everything keeps it
 pub kept_serialising : (h next : Hardware) (pc : ℕ) (registers : List ℕ) →
     next ≡ flushed (record h { pc = pc; registers = registers; rob = head_retired h.rob }) → IsKept h next
-kept_serialising h next pc registers is = rw is (record { values = refl; cycle = refl; retired = retires_one h.rob h.rob.entries })
+kept_serialising h next pc registers is =
+    rw is (record { values = refl; cycle = refl; retired = retires_one h.rob h.rob.entries })
 
 -- a trap keeps it
 pub kept_trapped : (h next : Hardware) (cause value : ℕ) → next ≡ with_trap cause value h → IsKept h next
@@ -106,7 +109,8 @@ turn_of_stale h e steps head stale =
     ∙ rw stale refl
 
 -- a head that does not serialise finishes by its result
-pub turn_not_serialising : (e : Entry) (instruction : Option Instr) (c : Committing) → is_serialising instruction ≡ false →
+pub turn_not_serialising : (e : Entry) (instruction : Option Instr) (c : Committing) →
+    is_serialising instruction ≡ false →
     head_turn e instruction c ≡ finish_broadcast e (broadcast_of e.stage) c
 turn_not_serialising e instruction c is = grind arith
 
@@ -146,7 +150,8 @@ pub ended_as : (h : Hardware) (steps : List Step) (step : Option Step) →
 ended_as h steps step = grind arith
 
 -- a serialising head waits for no result
-pub serialising_waits_not : (instruction : Option Instr) → role_of instruction ≡ WaitsForResult → is_serialising instruction ≡ true → ⊥
+pub serialising_waits_not : (instruction : Option Instr) → role_of instruction ≡ WaitsForResult →
+    is_serialising instruction ≡ true → ⊥
 serialising_waits_not instruction is serial = grind arith
 
 -- a head that accesses a CSR executes, which ends the phase

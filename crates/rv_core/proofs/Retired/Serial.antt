@@ -6,11 +6,13 @@ use Rattle.rv_arch.specs.Csr.{Kept}
 use Rattle.rv_core.proofs.Retired.Head.{buffer_after}
 use Rattle.rv_core.proofs.Retired.Sound.{entries_after_head}
 
-pub written_count : (written : Option (ℕ × ℕ)) (registers : List ℕ) → length (registers_with written registers) ≡ length registers
+pub written_count : (written : Option (ℕ × ℕ)) (registers : List ℕ) →
+    length (registers_with written registers) ≡ length registers
 written_count written registers = grind (arith, length-set)
 
 -- the hardware of which a serialising head has left is sound
-pub sound_after_serial : (h : Hardware) (e : Entry) (es : List Entry) (pc : ℕ) (written : Option (ℕ × ℕ)) → IsSoundHardware h →
+pub sound_after_serial : (h : Hardware) (e : Entry) (es : List Entry) (pc : ℕ) (written : Option (ℕ × ℕ)) →
+    IsSoundHardware h →
     h.rob.entries ≡ e ∷ es → h.rob.retired < 8 * h.cycle + 8 →
     IsSoundHardware (record h { pc = pc; registers = registers_with written h.registers; rob = head_retired h.rob })
 sound_after_serial h e es pc written sound entries room = record {
@@ -57,4 +59,5 @@ sound_apart p csrs stale before base size = record {
 pub kept_apart : (p : Inside) (csrs : Kept) (stale : StaleWords) (h next : Hardware) → hardware_of p ≡ h →
     IsKept (hardware_of (record p { csrs = csrs; stale = stale })) next → IsKept h next
 kept_apart p csrs stale h next is kept =
-    subst (λ (x : Hardware). IsKept x next) is (record { values = kept.values; cycle = kept.cycle; retired = kept.retired })
+    subst (λ (x : Hardware). IsKept x next) is
+    (record { values = kept.values; cycle = kept.cycle; retired = kept.retired })

@@ -11,15 +11,18 @@ use Rattle.rv_core.proofs.Retired.Stores.{AreRetired}
 
 -- the retired stores, with what the head writes
 retired_with : (values : Values) (ss : List QueuedStore) (seq : ℕ) (is_store : Bool) (written : Option StoreAccess) →
-    AreRetired values ss → IsLegalWrite values is_store None written → AreRetired values (ss ++ committed_store seq written)
+    AreRetired values ss → IsLegalWrite values is_store None written →
+    AreRetired values (ss ++ committed_store seq written)
 retired_with values ss seq is_store None are legal = rw (append-nil ss) are
 retired_with values ss seq is_store (Some access) are legal =
     All-push (λ (t : QueuedStore). IsRetiredStore values t.state) ss
     (record { seq = seq; state = Filled access Committed }) are (grind arith)
 
-older_with : (ss : List QueuedStore) (seq : ℕ) (written : Option StoreAccess) → All (λ (s : QueuedStore). s.seq < seq) ss →
+older_with : (ss : List QueuedStore) (seq : ℕ) (written : Option StoreAccess) →
+    All (λ (s : QueuedStore). s.seq < seq) ss →
     All (λ (s : QueuedStore). s.seq < seq + 1) (ss ++ committed_store seq written)
-older_with ss seq None are = rw (append-nil ss) (AreBelow-weaken (λ (s : QueuedStore). s.seq) seq (seq + 1) ss (omega arith) are)
+older_with ss seq None are =
+    rw (append-nil ss) (AreBelow-weaken (λ (s : QueuedStore). s.seq) seq (seq + 1) ss (omega arith) are)
 older_with ss seq (Some access) are =
     AreBelow-push (λ (s : QueuedStore). s.seq) (seq + 1) ss (record { seq = seq; state = Filled access Committed })
     (AreBelow-weaken (λ (s : QueuedStore). s.seq) seq (seq + 1) ss (omega arith) are) (omega arith)
@@ -36,12 +39,14 @@ entries_after_head values cycle rob e es sound entries room =
       each = All-tail (IsSoundEntry values) e es (subst (All (IsSoundEntry values)) entries sound.each);
       serial =
           let all : AllPairs (λ (older younger : Entry). is_serialising older.instruction ≡ false) (e ∷ es) =
-          subst (λ l. AllPairs (λ (older younger : Entry). is_serialising older.instruction ≡ false) l) entries sound.serial in
+          subst (λ l. AllPairs (λ (older younger : Entry). is_serialising older.instruction ≡ false) l)
+          entries sound.serial in
           λ i j d lt within. all (suc i) (suc j) d (omega (arith, lt)) (omega (arith, within));
     })
 
 -- the hardware of which the head has retired is sound
-pub sound_after_head : (h : Hardware) (e : Entry) (es : List Entry) (m : Message) → IsSoundHardware h → h.rob.entries ≡ e ∷ es →
+pub sound_after_head : (h : Hardware) (e : Entry) (es : List Entry) (m : Message) → IsSoundHardware h →
+    h.rob.entries ≡ e ∷ es →
     h.rob.retired < 8 * h.cycle + 8 → IsLegalWrite h.values (is_store e.instruction) None m.store →
     IsSoundHardware (with_result e m h)
 sound_after_head h e es m sound entries room legal = record {
@@ -52,7 +57,8 @@ sound_after_head h e es m sound entries room legal = record {
   cache = sound.cache;
   entries = entries_after_head h.values h.cycle h.rob e es sound.entries entries room;
   stores =
-      subst (λ (rob : ReorderBuffer). AreSoundStores h.values rob.retired (h.committed ++ committed_store h.rob.retired m.store))
+      subst (λ (rob : ReorderBuffer). AreSoundStores h.values rob.retired (h.committed
+      ++ committed_store h.rob.retired m.store))
       (sym (buffer_after h.rob e es entries)) (record {
         each = retired_with h.values h.committed h.rob.retired (is_store e.instruction) m.store sound.stores.each legal;
         older = older_with h.committed h.rob.retired m.store sound.stores.older;

@@ -38,5 +38,7 @@ module _ (before after : Inside) (is : IsSound before) (pc : ℕ) (registers : L
     squashed-is = closed-is after (flushed next) same squashed-tied (sound_when_flushed next sound)
 
     -- and are sound, if their stale words are of the same RAM
-    pub squashed-sound : after.stale.base ≡ after.values.ram_base → after.stale.size ≡ after.values.ram_size → IsSound after
-    squashed-sound base size = closed-sound after (flushed next) same squashed-tied (sound_when_flushed next sound) base size
+    pub squashed-sound : after.stale.base ≡ after.values.ram_base → after.stale.size ≡ after.values.ram_size →
+        IsSound after
+    squashed-sound base size =
+        closed-sound after (flushed next) same squashed-tied (sound_when_flushed next sound) base size

@@ -17,18 +17,21 @@ retired_is_committed values seq (store.Filled access Committed) are = refl
 retired_is_committed values seq (store.Filled access Draining) are = refl
 retired_is_committed values seq _ are = absurd are
 
-oldest_retires : (values : Values) (ss : List QueuedStore) (seq : ℕ) (access : StoreAccess) (younger : List QueuedStore) →
+oldest_retires : (values : Values) (ss : List QueuedStore) (seq : ℕ) (access : StoreAccess)
+    (younger : List QueuedStore) →
     AreRetired values ss →
     with_oldest_retired (ss ++ record { seq = seq; state = store.Filled access Speculative } ∷ younger)
     ≡ ss ++ record { seq = seq; state = store.Filled access Committed } ∷ younger
 oldest_retires values [] seq access younger are = refl
 oldest_retires values (s ∷ ss) seq access younger are =
-    rw (retired_is_committed values s.seq s.state (All-head (λ (t : QueuedStore). IsRetiredStore values t.state) s ss are))
+    rw (retired_is_committed values s.seq s.state
+    (All-head (λ (t : QueuedStore). IsRetiredStore values t.state) s ss are))
     (ap (λ l. s ∷ l) (oldest_retires values ss seq access younger
     (All-tail (λ (t : QueuedStore). IsRetiredStore values t.state) s ss are)))
 
 -- the queue, by whether the head is a store and what it writes
-committed_from : (values : Values) (ss : List QueuedStore) (seq : ℕ) (younger : List QueuedStore) → AreRetired values ss →
+committed_from : (values : Values) (ss : List QueuedStore) (seq : ℕ) (younger : List QueuedStore) →
+    AreRetired values ss →
     (is_store : Bool) (m : Message) (written : Option StoreAccess) → m.store ≡ written →
     IsLegalWrite values is_store None written →
     (with_commit m.store (record {
@@ -46,7 +49,8 @@ committed_from values ss seq younger are true m (Some access) is legal =
 committed_from values ss seq younger are _ m _ is legal = absurd legal
 
 -- the oldest store that has not retired is that of the head
-pub queued_after_head : (values : Values) (ss : List QueuedStore) (seq : ℕ) (e : Entry) (es : List Entry) (m : Message) →
+pub queued_after_head : (values : Values) (ss : List QueuedStore) (seq : ℕ) (e : Entry)
+    (es : List Entry) (m : Message) →
     AreRetired values ss →
     broadcast_of e.stage ≡ Some m → IsLegalWrite values (is_store e.instruction) None m.store →
     with_commit m.store (record { stores = ss ++ stores_of seq (e ∷ es); capacity = values.store_queue })

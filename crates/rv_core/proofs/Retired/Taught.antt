@@ -38,7 +38,8 @@ taught_more old now new steps s pc next so_far here more =
     let more_lessons : lessons_of steps pc ++ lesson_of s next ≡ lessons_of (steps ++ s ∷ []) next =
     ap (λ at. lessons_of steps at ++ lesson_of s next) (sym here) ∙ sym (lessons_push steps s next) in
     more ∙ ap (λ p. fold after_lesson p (lesson_of s next)) so_far
-    ∙ sym (fold-append after_lesson old (lessons_of steps pc) (lesson_of s next)) ∙ ap (fold after_lesson old) more_lessons
+    ∙ sym (fold-append after_lesson old (lessons_of steps pc) (lesson_of s next))
+    ∙ ap (fold after_lesson old) more_lessons
 
 -- the phase while it goes on, and what the predictor has been taught of its steps
 pub record AreTeaching (start h : Hardware) (steps : List Step) (old now : Guide) : Type 0 where
@@ -46,17 +47,22 @@ pub record AreTeaching (start h : Hardware) (steps : List Step) (old now : Guide
   pub taught : AreTaught old (lessons_of steps h.pc) now
 
 sound_begun : (h : Hardware) → IsBegun h → IsSound h
-sound_begun h begun = subst IsSound (sym begun.begun) (lines_sound begun.lines begun.before (always_sound begun.reached))
+sound_begun h begun = subst IsSound (sym begun.begun)
+    (lines_sound begun.lines begun.before (always_sound begun.reached))
 
 -- after the last turn
 pub taught_all : (start h : Hardware) (steps : List Step) (old now : Guide) →
     AreTeaching start h steps old now → (all : List Step) → steps ≡ all → AreTaught old (lessons_of all h.pc) now
-taught_all start h steps old now so_far all is_all = subst (λ l. AreTaught old (lessons_of l h.pc) now) is_all so_far.taught
+taught_all start h steps old now so_far all is_all =
+    subst (λ l. AreTaught old (lessons_of l h.pc) now) is_all so_far.taught
 
 -- before the first turn
 pub teaching_begins : (h : Hardware) (now : Guide) → IsBegun h → due h.csrs h.lines ≡ None →
     AreTeaching h h [] now now
-teaching_begins h now begun calm = record { going = begins_going h (sound_begun h begun) calm; taught = none_taught now }
+teaching_begins h now begun calm = record {
+  going = begins_going h (sound_begun h begun) calm;
+  taught = none_taught now;
+}
 
 -- a lesson with the pc that the program went on at
 pub learns_at : (old new : Guide) (step : Option Step) (pc next : ℕ) → pc ≡ next →
@@ -66,7 +72,8 @@ learns_at old new step pc next is learned = subst (λ n. AreTaught old (lessons_
 -- the lesson of a turn after those before it
 taught_on : (old now new : Guide) (c d : Committing) (step : Option Step) → GoesFrom c d →
     d.steps ≡ and_step c.steps step → AreTaught old (lessons_of c.steps c.hardware.pc) now →
-    AreTaught now (lessons_left step d.hardware.pc) new → AreTaught old (lessons_of (and_step c.steps step) d.hardware.pc) new
+    AreTaught now (lessons_left step d.hardware.pc) new →
+    AreTaught old (lessons_of (and_step c.steps step) d.hardware.pc) new
 taught_on old now new c d None goes same so_far more =
     subst (λ p. AreTaught old (lessons_of c.steps d.hardware.pc) p) (sym more)
     (subst (λ pc. AreTaught old (lessons_of c.steps pc) now) (sym (goes.stays same)) so_far)
@@ -104,7 +111,8 @@ module _ (start h : Hardware) (steps : List Step) (old now : Guide)
       AreTaught old (lessons_of all next.pc) new
   taught_at_end why new ends more all is_all =
       subst (λ l. AreTaught old (lessons_of l next.pc) new) is_all
-      (taught_on old now new (committing h steps) (record { hardware = next; steps = and_step steps step; stop = why }) step
+      (taught_on old now new (committing h steps)
+      (record { hardware = next; steps = and_step steps step; stop = why }) step
       (subst Left (ap (turn_left next steps step) ends) left) refl so_far.taught more)
 
 -- ---- the whole cycle
@@ -123,4 +131,5 @@ executed_here lines old committed reached is =
 pub taught_as : (old new : Guide) (steps done : List Step) (pc next : ℕ) → steps ≡ done → pc ≡ next →
     AreTaught old (lessons_of steps pc) new → AreTaught old (lessons_of done next) new
 taught_as old new steps done pc next same here taught =
-    subst (λ l. AreTaught old (lessons_of l next) new) same (subst (λ n. AreTaught old (lessons_of steps n) new) here taught)
+    subst (λ l. AreTaught old (lessons_of l next) new) same
+    (subst (λ n. AreTaught old (lessons_of steps n) new) here taught)

@@ -9,10 +9,12 @@ known_message : (stage : Stage) (m : Message) → broadcast_of stage ≡ Some m 
 known_message stage m known = grind arith
 
 -- what the head of a sound hardware writes, where it does not fault
-pub legal_write : (h : Hardware) (e : Entry) (es : List Entry) (m : Message) → IsSoundHardware h → h.rob.entries ≡ e ∷ es →
+pub legal_write : (h : Hardware) (e : Entry) (es : List Entry) (m : Message) → IsSoundHardware h →
+    h.rob.entries ≡ e ∷ es →
     broadcast_of e.stage ≡ Some m → m.fault ≡ None → IsLegalWrite h.values (is_store e.instruction) None m.store
 legal_write h e es m sound entries known faultless =
-    let entry = All-head (IsSoundEntry h.values) e es (subst (All (IsSoundEntry h.values)) entries sound.entries.each) in
+    let entry = All-head (IsSoundEntry h.values) e es
+    (subst (All (IsSoundEntry h.values)) entries sound.entries.each) in
     let legal : IsLegalWrite h.values (is_store e.instruction) m.fault m.store =
     subst (λ (o : Option Message). IfSome o
     (λ message. IsLegalWrite h.values (is_store e.instruction) message.fault message.store))
@@ -26,12 +28,14 @@ access_is_covered values stale access legal base size = grind arith
 -- it lies in the words that may be stale
 pub write_is_covered : (values : Values) (stale : StaleWords) (is_store : Bool) (written : Option StoreAccess) →
     IsLegalWrite values is_store None written →
-    stale.base ≡ values.ram_base → stale.size ≡ values.ram_size → IfSome written (λ a. IsTrue (is_covered stale a.address))
+    stale.base ≡ values.ram_base → stale.size ≡ values.ram_size →
+    IfSome written (λ a. IsTrue (is_covered stale a.address))
 write_is_covered values stale writes None legal base size = record {}
 write_is_covered values stale true (Some access) legal base size = access_is_covered values stale access legal base size
 write_is_covered values stale false (Some access) legal base size = absurd legal
 
 -- the registers with a target's value
 pub target_written : (registers : List ℕ) (target : Option ℕ) (m : Message) → IsTarget registers target →
-    registers_with (option_map (λ (register : ℕ). (register, m.value)) target) registers ≡ with_value registers target (Some m)
+    registers_with (option_map (λ (register : ℕ). (register, m.value)) target) registers
+    ≡ with_value registers target (Some m)
 target_written registers target m ok = grind (arith, ne_eqb)

@@ -31,7 +31,8 @@ module _ (p : Inside) (is : IsSound p) (none : find (is_ready_result p.cycle) p.
   unsent_bus = ap (λ results. record p.bus { results = results }) (without-none p.cycle p.bus.results none)
 
 -- ---- a result is sent
-module _ (p : Inside) (is : IsSound p) (r : PendingResult) (found : find (is_ready_result p.cycle) p.bus.results ≡ Some r) where
+module _ (p : Inside) (is : IsSound p) (r : PendingResult)
+    (found : find (is_ready_result p.cycle) p.bus.results ≡ Some r) where
   -- it is the result of an instruction in flight
   pub grant : IsGranted p.cycle p.rob.retired [] p.rob.entries r
   grant =
@@ -118,7 +119,8 @@ module _ (p : Inside) (is : IsSound p) (r : PendingResult) (found : find (is_rea
                   (answered r.seq (store_of_message grant.message.store)) q.stores;
             }) is.tied.queued ∙
             ap (λ stores. record { stores = stores; capacity = h.values.store_queue })
-            (queue-answered r.seq p.cycle grant.message h.committed rob.retired rob.entries grant.entry is.sound.stores.older
+            (queue-answered r.seq p.cycle grant.message h.committed rob.retired rob.entries
+            grant.entry is.sound.stores.older
             grant.held silent);
       }
 
@@ -164,7 +166,12 @@ module _ (p : Inside) (is : IsSound p) (seq next_pc : ℕ) (e : Entry) (early : 
       let mended_entries = with_entry f seq s es in
       let P : Entry → Entry → Type 0 = λ older younger. is_serialising older.instruction ≡ false in
       sound_in_flight h (entries_below (seq + 1) s mended_entries) (redirected next_pc h.front) is.sound
-      (omega (arith, length-entries_below (seq + 1) s mended_entries, length-with_entry f seq s es, is.sound.entries.within))
+      (omega (
+        arith,
+        length-entries_below (seq + 1) s mended_entries,
+        length-with_entry f seq s es,
+        is.sound.entries.within,
+      ))
       (All-entries_below (IsSoundEntry h.values) (seq + 1) s mended_entries
       (All-with_entry (IsSoundEntry h.values) f seq s es
       (λ d here one. record { decoded = one.decoded; target = one.target; writes = one.writes }) is.sound.entries.each))
@@ -172,7 +179,8 @@ module _ (p : Inside) (is : IsSound p) (seq next_pc : ℕ) (e : Entry) (early : 
       (pairs-with_entry P f (λ d e one. one) (λ d e one. one) seq s es is.sound.entries.serial))
       (λ k d lt. absurd (omega arith))
 
-  recovered_tied : AreTied recovered_to recovered_parts.rename recovered_parts.stations recovered_parts.bus recovered_parts.stores
+  recovered_tied : AreTied recovered_to recovered_parts.rename recovered_parts.stations recovered_parts.bus
+      recovered_parts.stores
   recovered_tied =
       let h = hardware_of p in
       let rob = h.rob in
@@ -181,7 +189,8 @@ module _ (p : Inside) (is : IsSound p) (seq next_pc : ℕ) (e : Entry) (early : 
       let from = (entry_of-from seq s es e held).0 in
       record {
         renamed =
-            ap (restored seq) (is.tied.renamed ∙ sym (renaming-same (predicting next_pc) (λ d. refl) seq h.values rob)) ∙
+            ap (restored seq) (is.tied.renamed ∙ sym (renaming-same (predicting next_pc) (λ d. refl) seq h.values rob))
+            ∙
             renaming-restored h.values mended seq (predicting next_pc e) early
             (entry_of-changed (predicting next_pc) seq s es e held) jump;
         stationed =

@@ -78,7 +78,8 @@ pub record IsGranted (cycle n : ℕ) (older es : List Entry) (r : PendingResult)
   pub running : entry.stage ≡ Running issue message
   pub over : result_at cycle entry.stage ≡ Some message
   pub held : entry_of r.seq n es ≡ Some entry
-  pub rest : without_first_ready cycle (pending_from n es) ≡ pending_from n (with_entry (finished message cycle) r.seq n es)
+  pub rest : without_first_ready cycle (pending_from n es)
+      ≡ pending_from n (with_entry (finished message cycle) r.seq n es)
 
 module _ (cycle : ℕ) where
   -- an instruction that has no result yet
@@ -108,35 +109,38 @@ module _ (cycle : ℕ) where
       → (find (is_ready_result cycle) (pending_from (n + 1) es) ≡ Some r →
       IsGranted cycle (n + 1) (older ++ record e { stage = stage } ∷ []) es r)
       → IsGranted cycle n older (record e { stage = stage } ∷ es) r
-  granted-at n older e (Running issue message) es r found later = elim (cases_Bool (nat_le (issue.cycle + issue.cost) cycle)) [
-    | inl ready ↦
-        let own : PendingResult = record { seq = n; ready = issue.cycle + issue.cost } in
-        let is : Some own ≡ Some r =
-        sym (ap (λ b. cond b (Some own) (find (is_ready_result cycle) (pending_from (n + 1) es))) ready) ∙ found in
-        let one : own ≡ r = cc in
-        rw (← one) (record {
-          before = older;
-          entry = record e { stage = Running issue message };
-          is_oldest = rw ready refl;
-          number = refl;
-          issue = issue;
-          message = message;
-          running = refl;
-          over = rw ready refl;
-          held = rw (eq-eqb n n refl) refl;
-          rest = rw (ready, eq-eqb n n refl) refl;
-        })
-    | inr late ↦
-        let own : PendingResult = record { seq = n; ready = issue.cycle + issue.cost } in
-        let found_later : find (is_ready_result cycle) (pending_from (n + 1) es) ≡ Some r =
-        sym (ap (λ b. cond b (Some own) (find (is_ready_result cycle) (pending_from (n + 1) es))) late) ∙ found in
-        granted-later n older (record e { stage = Running issue message }) es r (rw late refl) (rw late refl) (later found_later)
-  ]
+  granted-at n older e (Running issue message) es r found later =
+      elim (cases_Bool (nat_le (issue.cycle + issue.cost) cycle)) [
+        | inl ready ↦
+            let own : PendingResult = record { seq = n; ready = issue.cycle + issue.cost } in
+            let is : Some own ≡ Some r =
+            sym (ap (λ b. cond b (Some own) (find (is_ready_result cycle) (pending_from (n + 1) es))) ready) ∙ found in
+            let one : own ≡ r = cc in
+            rw (← one) (record {
+              before = older;
+              entry = record e { stage = Running issue message };
+              is_oldest = rw ready refl;
+              number = refl;
+              issue = issue;
+              message = message;
+              running = refl;
+              over = rw ready refl;
+              held = rw (eq-eqb n n refl) refl;
+              rest = rw (ready, eq-eqb n n refl) refl;
+            })
+        | inr late ↦
+            let own : PendingResult = record { seq = n; ready = issue.cycle + issue.cost } in
+            let found_later : find (is_ready_result cycle) (pending_from (n + 1) es) ≡ Some r =
+            sym (ap (λ b. cond b (Some own) (find (is_ready_result cycle) (pending_from (n + 1) es))) late) ∙ found in
+            granted-later n older (record e { stage = Running issue message }) es r (rw late refl)
+            (rw late refl) (later found_later)
+      ]
   granted-at n older e stage es r found later =
       granted-later n older (record e { stage = stage }) es r refl refl (later found)
 
   -- the first result that is ready is that of an instruction in flight, the oldest with a result
-  pub granted : (n : ℕ) (older es : List Entry) (r : PendingResult) → find (is_ready_result cycle) (pending_from n es) ≡ Some r →
+  pub granted : (n : ℕ) (older es : List Entry) (r : PendingResult) →
+      find (is_ready_result cycle) (pending_from n es) ≡ Some r →
       IsGranted cycle n older es r
   granted n older [] r found = absurd (cc)
   granted n older (e ∷ es) r found =
@@ -149,6 +153,7 @@ module _ (cycle : ℕ) where
   granted-none n older (e ∷ es) none = grind (arith, granted-none (n + 1) (older ++ e ∷ []) es)
 
   -- and nothing leaves the bus
-  pub without-none : (ps : List PendingResult) → find (is_ready_result cycle) ps ≡ None → without_first_ready cycle ps ≡ ps
+  pub without-none : (ps : List PendingResult) → find (is_ready_result cycle) ps ≡ None →
+      without_first_ready cycle ps ≡ ps
   without-none [] none = refl
   without-none (p ∷ ps) none = grind (arith, without-none ps)

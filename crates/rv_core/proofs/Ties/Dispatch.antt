@@ -24,7 +24,8 @@ pub record Goes (h : Hardware) (fetched : Fetched) : Type 0 where
   pub serial : list_any (λ e. is_serialising e.instruction) h.rob.entries ≡ false
   pub room : nat_le h.rob.capacity (length h.rob.entries) ≡ false
   pub station : has_full_stations h (kind_of_word fetched.instruction) ≡ false
-  pub queue : (is_store fetched.instruction && nat_le h.values.store_queue (length (stores_after h h.rob.entries))) ≡ false
+  pub queue : (is_store fetched.instruction && nat_le h.values.store_queue (length (stores_after h h.rob.entries)))
+      ≡ false
 
 -- what holds where nothing has a fetched word wait
 pub goes : (h : Hardware) (fetched : Fetched) → reason_of h fetched ≡ None → Goes h fetched
@@ -39,7 +40,8 @@ abbrev IsLast : List Entry → Type 0
 IsLast es = AllPairs (λ older younger. is_serialising older.instruction ≡ false) es
 
 -- one of them serialises where the youngest does
-pub serial-youngest : (es : List Entry) → IsLast es → list_any (λ e. is_serialising e.instruction) es ≡ serial_in (youngest es)
+pub serial-youngest : (es : List Entry) → IsLast es → list_any (λ e. is_serialising e.instruction) es
+    ≡ serial_in (youngest es)
 serial-youngest [] last = refl
 serial-youngest (e ∷ []) last = or-false (is_serialising e.instruction)
 serial-youngest (e ∷ d ∷ es) last =
@@ -49,22 +51,26 @@ serial-youngest (e ∷ d ∷ es) last =
     rw before (serial-youngest (d ∷ es) others ∙ ap (λ i. serial_in (slice_get (e ∷ d ∷ es) i)) place)
 
 -- the stations of a kind are full where as many instructions wait as there are stations
-pub full-is : (h : Hardware) (o : Option Kind) → are_full_for o (stations_of h.values h.registers h.rob) ≡ has_full_stations h o
+pub full-is : (h : Hardware) (o : Option Kind) → are_full_for o (stations_of h.values h.registers h.rob)
+    ≡ has_full_stations h o
 full-is h o = grind (arith, at_kind-by_kind, waiting-count)
 
 -- the reason, of the four tests
 pub reason-is : (h : Hardware) (fetched : Fetched) (serial room station queue : Bool) →
-    list_any (λ e. is_serialising e.instruction) h.rob.entries ≡ serial → nat_le h.rob.capacity (length h.rob.entries) ≡ room
+    list_any (λ e. is_serialising e.instruction) h.rob.entries ≡ serial →
+    nat_le h.rob.capacity (length h.rob.entries) ≡ room
     → has_full_stations h (kind_of_word fetched.instruction) ≡ station →
     (is_store fetched.instruction && nat_le h.values.store_queue (length (stores_after h h.rob.entries))) ≡ queue
     → reason_of h fetched ≡ cond serial (Some stall.Serial)
     (cond room (Some stall.Rob) (cond station (Some stall.Station) (cond queue (Some stall.Store) None)))
 reason-is h fetched serial room station queue serial_is room_is station_is queue_is = λ i.
     cond (serial_is i) (Some stall.Serial)
-    (cond (room_is i) (Some stall.Rob) (cond (station_is i) (Some stall.Station) (cond (queue_is i) (Some stall.Store) None)))
+    (cond (room_is i) (Some stall.Rob)
+    (cond (station_is i) (Some stall.Station) (cond (queue_is i) (Some stall.Store) None)))
 
 -- ---- the entry
-first-legal : (values : Values) (layout : Layout) (s : State) (lines : Lines) (cycle : ℕ) (word : Option ℕ) (o : Option Instr)
+first-legal : (values : Values) (layout : Layout) (s : State) (lines : Lines) (cycle : ℕ)
+    (word : Option ℕ) (o : Option Instr)
     → IfSome (message_of (stage_by (kind_of_word o) (is_serialising o)
     (Finished None cycle (result_of_word layout s lines word o))))
     (λ message. IsLegalWrite values (is_store o) message.fault message.store)
@@ -127,7 +133,8 @@ module _ (h : Hardware) (fetched : Fetched) where
         stationed =
             ap (with_instruction (status_after
             (values_in h.registers) h.rob.retired h.rob.entries) n fetched.pc fetched.instruction) tied.stationed ∙
-            sym (stations-push h.values h.registers h.rob new_entry (is_serialising fetched.instruction) h.cycle message refl);
+            sym (stations-push h.values h.registers h.rob new_entry (is_serialising fetched.instruction)
+            h.cycle message refl);
         pending = tied.pending ∙ sym
             (bus-push h.values h.rob new_entry (kind_of_word fetched.instruction)
             (is_serialising fetched.instruction) h.cycle message refl);

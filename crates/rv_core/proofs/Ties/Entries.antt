@@ -47,7 +47,8 @@ entry_of-changed f n s [] e held = absurd (cc)
 entry_of-changed f n s (d ∷ es) e held = grind (arith, entry_of-changed f n (s + 1) es e)
 
 -- changes that leave the same at its number
-pub with_entry-alike : (f g : Entry → Entry) (n s : ℕ) (es : List Entry) (e : Entry) → entry_of n s es ≡ Some e → f e ≡ g e →
+pub with_entry-alike : (f g : Entry → Entry) (n s : ℕ) (es : List Entry) (e : Entry) → entry_of n s es ≡ Some e →
+    f e ≡ g e →
     with_entry f n s es ≡ with_entry g n s es
 with_entry-alike f g n s [] e held alike = refl
 with_entry-alike f g n s (d ∷ es) e held alike = grind (arith, with_entry-alike f g n (s + 1) es e)
@@ -85,10 +86,12 @@ module _ (R : Entry → Entry → Type 0) where
   pairs-entries_below n s es pairs =
       rw (entries_below-take (n - s) n s es refl) (λ i j d lt within.
       let size = length-take (n - s) es in
-      rw (get_or-take (n - s) es i d (omega arith), get_or-take (n - s) es j d (omega arith)) (pairs i j d lt (omega arith)))
+      rw (get_or-take (n - s) es i d (omega arith), get_or-take (n - s) es j d (omega arith))
+      (pairs i j d lt (omega arith)))
 
   -- and of those with a changed entry, where the change keeps it
-  pub pairs-with_entry : (f : Entry → Entry) → ((d e : Entry) → R d e → R (f d) e) → ((d e : Entry) → R d e → R d (f e)) →
+  pub pairs-with_entry : (f : Entry → Entry) → ((d e : Entry) → R d e → R (f d) e) →
+      ((d e : Entry) → R d e → R d (f e)) →
       (n s : ℕ) (es : List Entry) → AllPairs R es → AllPairs R (with_entry f n s es)
   pairs-with_entry f older younger n s [] pairs = pairs
   pairs-with_entry f older younger n s (e ∷ es) pairs =

@@ -35,7 +35,8 @@ module _ {S : Type 0} (next : S → ℕ → Entry → S) where
         grind (arith, own_is, next_is, gathered-same f own_is next_is n (next st s e) (s + 1) es)
 
     -- an instruction gives one at most
-    pub gathered-length : ((st : S) (s : ℕ) (e : Entry) → length (own st s e) ≤ 1) → (st : S) (s : ℕ) (es : List Entry) →
+    pub gathered-length : ((st : S) (s : ℕ) (e : Entry) → length (own st s e) ≤ 1) →
+        (st : S) (s : ℕ) (es : List Entry) →
         length (gathered st s es) ≤ length es
     gathered-length one st s [] = omega arith
     gathered-length one st s (e ∷ es) =
@@ -49,18 +50,21 @@ module _ {S : Type 0} (next : S → ℕ → Entry → S) where
     -- what an instruction gives has its number
     module _ (number : X → ℕ) (at : (st : S) (s : ℕ) (e : Entry) → All (λ x. number x ≡ s) (own st s e)) where
       -- what all give has no smaller number than the first instruction
-      pub gathered-from : (m : ℕ) (st : S) (s : ℕ) (es : List Entry) → m ≤ s → All (λ x. m ≤ number x) (gathered st s es)
+      pub gathered-from : (m : ℕ) (st : S) (s : ℕ) (es : List Entry) → m ≤ s →
+          All (λ x. m ≤ number x) (gathered st s es)
       gathered-from m st s [] le = λ k d lt. absurd (omega arith)
       gathered-from m st s (e ∷ es) le =
           All-append (λ x. m ≤ number x) (own st s e) (gathered (next st s e) (s + 1) es)
           (λ k d lt. omega (arith, at st s e k d lt, le)) (gathered-from m (next st s e) (s + 1) es (omega (arith, le)))
 
       -- and smaller ones than the next instruction will have
-      pub gathered-below : (n : ℕ) (st : S) (s : ℕ) (es : List Entry) → s + length es ≤ n → AreBelow number n (gathered st s es)
+      pub gathered-below : (n : ℕ) (st : S) (s : ℕ) (es : List Entry) → s + length es ≤ n →
+          AreBelow number n (gathered st s es)
       gathered-below n st s [] le = λ k d lt. absurd (omega arith)
       gathered-below n st s (e ∷ es) le =
           AreBelow-append number n (own st s e) (gathered (next st s e) (s + 1) es)
-          (λ k d lt. omega (arith, at st s e k d lt, le)) (gathered-below n (next st s e) (s + 1) es (omega (arith, le)))
+          (λ k d lt. omega (arith, at st s e k d lt, le))
+          (gathered-below n (next st s e) (s + 1) es (omega (arith, le)))
 
       -- the instructions below a number
       pub gathered-cut : (n : ℕ) (st : S) (s : ℕ) (es : List Entry) →

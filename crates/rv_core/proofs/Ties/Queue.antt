@@ -44,7 +44,8 @@ stores-below n s es le =
 pub stores-cut : (n s : ℕ) (es : List Entry) → older_than n (stores_of s es) ≡ stores_of s (entries_below n s es)
 stores-cut n s es =
     ap (older_than n) (stores-gathered s es) ∙
-    gathered-cut nothing own_store (λ x. x.seq) (λ st s e. store-at_if (is_store e.instruction) s (store_at s e) refl) n tt s es ∙
+    gathered-cut nothing own_store (λ x. x.seq)
+    (λ st s e. store-at_if (is_store e.instruction) s (store_at s e) refl) n tt s es ∙
     sym (stores-gathered s (entries_below n s es))
 
 -- another prediction leaves the stores as they are
@@ -70,7 +71,8 @@ all_of_retired values (s ∷ ss) are =
     (ap (λ l. s ∷ l) (all_of_retired values ss (All-tail (λ (t : Store). IsRetiredStore values t.state) s ss are)))
 
 -- the retired stores of the queue are those of the hardware
-pub retired_of_queue : (h : Hardware) → AreRetired h.values h.committed → filter is_committed (queue_of h).stores ≡ h.committed
+pub retired_of_queue : (h : Hardware) → AreRetired h.values h.committed →
+    filter is_committed (queue_of h).stores ≡ h.committed
 retired_of_queue h are =
     filter-append is_committed h.committed (stores_of h.rob.retired h.rob.entries)
     ∙ (λ i. all_of_retired h.values h.committed are i ++ stores-uncommitted h.rob.retired h.rob.entries i)
@@ -86,10 +88,14 @@ with_store-is : (b : Bool) (n : ℕ) (state : StoreState) (queue : Queue) → (b
 with_store-is b n state queue is = grind (arith, append-nil)
 
 -- what a dispatch makes of the store queue
-pub stores-push : (committed : List Store) (capacity : ℕ) (rob : ReorderBuffer) (e : Entry) (serialising : Bool) (cycle : ℕ)
+pub stores-push : (committed : List Store) (capacity : ℕ) (rob : ReorderBuffer) (e : Entry)
+    (serialising : Bool) (cycle : ℕ)
     (message : Message) → e.stage ≡ stage_by (kind_of_word e.instruction) serialising (Finished None cycle message)
     → (let before : Queue = record { stores = committed ++ stores_of rob.retired rob.entries; capacity = capacity } in
-    let after : Queue = record { stores = committed ++ stores_of rob.retired (rob.entries ++ e ∷ []); capacity = capacity } in
+    let after : Queue = record {
+      stores = committed ++ stores_of rob.retired (rob.entries ++ e ∷ []);
+      capacity = capacity;
+    } in
     after ≡ with_store (is_store e.instruction) (next_number rob) before)
 stores-push committed capacity rob e serialising cycle message at =
     let s = rob.retired in
@@ -104,12 +110,17 @@ stores-push committed capacity rob e serialising cycle message at =
     ) ∙
     sym (with_store-is (is_store e.instruction) n (store_of_broadcast (broadcast_of e.stage))
     (record { stores = committed ++ stores_of s es; capacity = capacity }) (λ is.
-    ap store_of_broadcast (ap broadcast_of at ∙ store-first e.instruction serialising (Finished None cycle message) is)))
+    ap store_of_broadcast (ap broadcast_of at
+    ∙ store-first e.instruction serialising (Finished None cycle message) is)))
 
 -- a further store is younger than all
 pub can_enter : (committed : List Store) (capacity : ℕ) (rob : ReorderBuffer) →
-    AreBelow (λ (x : Store). x.seq) rob.retired committed → length (committed ++ stores_of rob.retired rob.entries) < capacity
-    → CanEnter (next_number rob) (record { stores = committed ++ stores_of rob.retired rob.entries; capacity = capacity })
+    AreBelow (λ (x : Store). x.seq) rob.retired committed →
+    length (committed ++ stores_of rob.retired rob.entries) < capacity
+    → CanEnter (next_number rob) (record {
+      stores = committed ++ stores_of rob.retired rob.entries;
+      capacity = capacity;
+    })
 can_enter committed capacity rob older room = (
   room,
   AreBelow-append (λ (x : Store). x.seq) (next_number rob) committed (stores_of rob.retired rob.entries)
@@ -126,9 +137,11 @@ module _ (n : ℕ) (news : StoreState) where
       rw (All-head (λ (x : Store). (x.seq == n) ≡ false) x ss others)
       (ap (λ l. x ∷ l) (answered-other ss (All-tail (λ (x : Store). (x.seq == n) ≡ false) x ss others)))
 
-  pub answered-older : (ss : List Store) (m : ℕ) → m ≤ n → AreBelow (λ (x : Store). x.seq) m ss → map (answered n news) ss ≡ ss
+  pub answered-older : (ss : List Store) (m : ℕ) → m ≤ n → AreBelow (λ (x : Store). x.seq) m ss →
+      map (answered n news) ss ≡ ss
   answered-older ss m le older =
-      answered-other ss (λ k d lt. ne_eqb _ n (λ same. let below = older k d lt in absurd (omega (arith, same, below, le))))
+      answered-other ss (λ k d lt. ne_eqb _ n (λ same. let below = older k d lt in
+      absurd (omega (arith, same, below, le))))
 
   answered-later : (s : ℕ) (es : List Entry) → n < s → map (answered n news) (stores_of s es) ≡ stores_of s es
   answered-later s es lt =
@@ -141,7 +154,8 @@ module _ (n cycle : ℕ) (message : Message) where
   news = store_of_message message.store
 
   -- with a store, or with none
-  answered-with : (b : Bool) (x y : Store) (xs ys : List Store) → answered n news x ≡ y → map (answered n news) xs ≡ ys →
+  answered-with : (b : Bool) (x y : Store) (xs ys : List Store) → answered n news x ≡ y →
+      map (answered n news) xs ≡ ys →
       map (answered n news) (cond b (x ∷ xs) xs) ≡ cond b (y ∷ ys) ys
   answered-with b x y xs ys one others = grind arith
 
@@ -152,7 +166,8 @@ module _ (n cycle : ℕ) (message : Message) where
     | at_head equal number one ↦
         let quiet : broadcast_of d.stage ≡ None = rw one silent in
         rw equal
-        (answered-with (is_store d.instruction) (store_at s d) (record { seq = s; state = news }) (stores_of (s + 1) es) _
+        (answered-with (is_store d.instruction) (store_at s d) (record { seq = s; state = news })
+        (stores_of (s + 1) es) _
         (rw (quiet, eq-eqb s n (sym number)) refl) (answered-later n news (s + 1) es (omega (arith, number))))
     | in_tail other is ↦
         rw other

@@ -16,7 +16,8 @@ abbrev pub operand_from : Operand → Option ℕ → ℕ → List Entry → Oper
 operand_from operand None s es = operand
 operand_from operand (Some n) s es = operand_at n (entry_of n s es)
 
-youngest-one : (P : ℕ → Type 0) (n : ℕ) (later : Option ℕ) (b : Bool) (own : ℕ) → P own → ((k : ℕ) → later ≡ Some k → P k) →
+youngest-one : (P : ℕ → Type 0) (n : ℕ) (later : Option ℕ) (b : Bool) (own : ℕ) → P own →
+    ((k : ℕ) → later ≡ Some k → P k) →
     option_or later (cond b (Some own) None) ≡ Some n → P n
 youngest-one P n later b own holds each is = grind arith
 
@@ -25,16 +26,20 @@ youngest-all : (P : ℕ → Type 0) (register n : ℕ) (ps : List Producer) → 
     youngest register ps ≡ Some n → P n
 youngest-all P register n [] each is = absurd (cc)
 youngest-all P register n (p ∷ ps) each is =
-    youngest-one P n (youngest register ps) (register == p.register) p.seq (All-head (λ (p : Producer). P p.seq) p ps each)
+    youngest-one P n (youngest register ps) (register == p.register) p.seq
+    (All-head (λ (p : Producer). P p.seq) p ps each)
     (λ k later. youngest-all P register k ps (All-tail (λ (p : Producer). P p.seq) p ps each) later) is
 
 -- the number of a producer is that of an instruction in flight
-pub youngest-below : (register n s : ℕ) (es : List Entry) → youngest register (producers_of s es) ≡ Some n → n < s + length es
+pub youngest-below : (register n s : ℕ) (es : List Entry) → youngest register (producers_of s es) ≡ Some n →
+    n < s + length es
 youngest-below register n s es is =
-    youngest-all (λ k. k < s + length es) register n (producers_of s es) (producers-below (s + length es) s es (omega arith)) is
+    youngest-all (λ k. k < s + length es) register n (producers_of s es)
+    (producers-below (s + length es) s es (omega arith)) is
 
 module _ (register : ℕ) where
-  later-is : (operand : Operand) (found : Option ℕ) (s : ℕ) (e : Entry) (es : List Entry) → ((k : ℕ) → found ≡ Some k → s + 1 ≤ k)
+  later-is : (operand : Operand) (found : Option ℕ) (s : ℕ) (e : Entry) (es : List Entry) →
+      ((k : ℕ) → found ≡ Some k → s + 1 ≤ k)
       → operand_from operand found (s + 1) es ≡ operand_from operand found s (e ∷ es)
   later-is operand found s e es from = grind (arith, ne_eqb)
 

@@ -16,7 +16,8 @@ own_producer st s e = producer_of s (target_of_word e.instruction)
 
 producers-gathered : (s : ℕ) (es : List Entry) → producers_of s es ≡ gathered nothing own_producer tt s es
 producers-gathered s [] = refl
-producers-gathered s (e ∷ es) = ap (λ ps. producer_of s (target_of_word e.instruction) ++ ps) (producers-gathered (s + 1) es)
+producers-gathered s (e ∷ es) = ap (λ ps. producer_of s (target_of_word e.instruction) ++ ps)
+    (producers-gathered (s + 1) es)
 
 producer-at : (s : ℕ) (target : Option ℕ) → All (λ p. p.seq ≡ s) (producer_of s target)
 producer-at s target = grind (arith, All-cons)
@@ -31,10 +32,12 @@ producers-push s n es e is =
     ap (λ ps. ps ++ producer_of n (target_of_word e.instruction)) (sym (producers-gathered s es))
 
 -- producers have numbers below that of the next instruction
-pub producers-below : (n s : ℕ) (es : List Entry) → s + length es ≤ n → AreBelow (λ (p : Producer). p.seq) n (producers_of s es)
+pub producers-below : (n s : ℕ) (es : List Entry) → s + length es ≤ n →
+    AreBelow (λ (p : Producer). p.seq) n (producers_of s es)
 producers-below n s es le =
     rw (producers-gathered s es)
-    (gathered-below nothing own_producer (λ p. p.seq) (λ st s e. producer-at s (target_of_word e.instruction)) n tt s es le)
+    (gathered-below nothing own_producer (λ p. p.seq)
+    (λ st s e. producer-at s (target_of_word e.instruction)) n tt s es le)
 
 -- and none below the first
 pub producers-from : (s : ℕ) (es : List Entry) → All (λ (p : Producer). s ≤ p.seq) (producers_of s es)
@@ -49,7 +52,8 @@ producers-length s es =
     (gathered-length nothing own_producer (λ st s e. producer-one s (target_of_word e.instruction)) tt s es)
 
 -- a change that keeps the instruction
-pub producers-same : (f : Entry → Entry) → ((e : Entry) → (f e).instruction ≡ e.instruction) → (n s : ℕ) (es : List Entry) →
+pub producers-same : (f : Entry → Entry) → ((e : Entry) → (f e).instruction ≡ e.instruction) →
+    (n s : ℕ) (es : List Entry) →
     producers_of s (with_entry f n s es) ≡ producers_of s es
 producers-same f same n s es =
     producers-gathered s (with_entry f n s es) ∙
@@ -67,7 +71,8 @@ checkpoints-gathered : (older : List Producer) (s : ℕ) (es : List Entry) →
 checkpoints-gathered older s [] = refl
 checkpoints-gathered older s (e ∷ es) = grind (arith, checkpoints-gathered (producers_with older s e) (s + 1) es)
 
-checkpoint-at : (b : Bool) (c : Checkpoint) (s : ℕ) → c.seq ≡ s → All (λ (c : Checkpoint). c.seq ≡ s) (cond b (c ∷ []) [])
+checkpoint-at : (b : Bool) (c : Checkpoint) (s : ℕ) → c.seq ≡ s →
+    All (λ (c : Checkpoint). c.seq ≡ s) (cond b (c ∷ []) [])
 checkpoint-at b c s is = grind (arith, All-cons)
 
 checkpoint-one : (b : Bool) (c : Checkpoint) → length (cond b (c ∷ []) []) ≤ 1
@@ -197,7 +202,8 @@ can_checkpoint values rob target room =
         checkpoints-length rob.retired rob.entries,
       ),
       AreBelow-append (λ (p : Producer). p.seq) (n + 1) (producers_of rob.retired rob.entries) (producer_of n target)
-          (producers-below (n + 1) rob.retired rob.entries (omega arith)) (λ k d lt. omega (arith, producer-at n target k d lt)),
+          (producers-below (n + 1) rob.retired rob.entries (omega arith))
+          (λ k d lt. omega (arith, producer-at n target k d lt)),
     )
 
 -- ---- early recovery
@@ -207,14 +213,16 @@ producers_at-other : (n s : ℕ) (b : Bool) (ps now found : List Producer) (cs :
 producers_at-other n s b ps now found cs other later = grind arith
 
 -- the checkpoint of a branch or a jump has the producers up to it
-producers_at-jump : (n : ℕ) (now older : List Producer) (s : ℕ) (es : List Entry) (e : Entry) → entry_of n s es ≡ Some e →
+producers_at-jump : (n : ℕ) (now older : List Producer) (s : ℕ) (es : List Entry) (e : Entry) →
+    entry_of n s es ≡ Some e →
     is_branch_or_jump e.instruction ≡ true
     → producers_at n (checkpoints_of older s es) now ≡ older ++ producers_of s (entries_below (n + 1) s es)
 producers_at-jump n now older s [] e held jump = absurd (cc)
 producers_at-jump n now older s (d ∷ es) e held jump = elim (held_at n s d es e held) [
   | at_head equal same one ↦
       let own : is_branch_or_jump d.instruction ≡ true = rw one jump in
-      let none : entries_below (n + 1) (s + 1) es ≡ [] = rw same (entries_below-none (s + 1) (s + 1) es (omega arith)) in
+      let none : entries_below (n + 1) (s + 1) es ≡ [] =
+      rw same (entries_below-none (s + 1) (s + 1) es (omega arith)) in
       rw (own, equal, lt-ltb s (n + 1) (omega (arith, same)))
       (ap (λ ps. older ++ ps) (sym
       (ap (λ l. producer_of s (target_of_word d.instruction) ++ producers_of (s + 1) l) none
@@ -228,7 +236,8 @@ producers_at-jump n now older s (d ∷ es) e held jump = elim (held_at n s d es 
 ]
 
 -- a squash after a branch or a jump
-pub renaming-restored : (values : Values) (rob : ReorderBuffer) (n : ℕ) (e : Entry) → mends_early values.recovery ≡ true →
+pub renaming-restored : (values : Values) (rob : ReorderBuffer) (n : ℕ) (e : Entry) →
+    mends_early values.recovery ≡ true →
     entry_of n rob.retired rob.entries ≡ Some e → is_branch_or_jump e.instruction ≡ true
     → restored n (renaming_of values rob) ≡ renaming_of values (cut_from (n + 1) rob)
 renaming-restored values rob n e early held jump =

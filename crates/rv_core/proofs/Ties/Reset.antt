@@ -44,12 +44,14 @@ sound-at_reset values image start legal fits = record {
   fetched = search rules;
 }
 
-no_checkpoint : (early : Bool) → empty 0 ≡ record { capacity = 0; producers = []; checkpoints = if early then [] else [] }
+no_checkpoint : (early : Bool) →
+    empty 0 ≡ record { capacity = 0; producers = []; checkpoints = if early then [] else [] }
 no_checkpoint true = refl
 no_checkpoint false = refl
 
 -- parts that stand for the hardware at reset, with nothing in flight, are sound
-pub reset-sound : (p : Inside) (values : Values) (image : List ℕ) (start : ℕ) → IsLegal values → length image ≤ values.ram_size →
+pub reset-sound : (p : Inside) (values : Values) (image : List ℕ) (start : ℕ) → IsLegal values →
+    length image ≤ values.ram_size →
     hardware_of p ≡ reset_hardware values image start → p.rename ≡ empty values.rob →
     p.stations ≡ for_each empty_pool values.kinds → p.bus ≡ empty_bus values →
     p.stores ≡ record { stores = []; capacity = values.store_queue } → p.stale.base ≡ values.ram_base →

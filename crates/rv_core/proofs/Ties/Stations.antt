@@ -126,7 +126,8 @@ module _ (unit : Kind) where
     woken-later status s (e ∷ es) lt =
         map-append (woken n value) (waiting_at unit status s e e.instruction)
         (waiting_from unit (status_with status s e) (s + 1) es) ∙
-        (λ i. woken-at status s e e.instruction i ++ woken-later (status_with status s e) (s + 1) es (omega (arith, lt)) i) ∙
+        (λ i. woken-at status s e e.instruction i ++ woken-later (status_with status s e) (s + 1) es
+        (omega (arith, lt)) i) ∙
         ap (λ st. waiting_at unit (woken_status status) s e e.instruction ++ waiting_from unit st (s + 1) es)
         (woken-with status s e (ne_eqb s n (omega (arith, lt))))
 
@@ -135,7 +136,8 @@ module _ (unit : Kind) where
       woken-own : (status : RegisterStatus) (s : ℕ) (e : Entry) → (s == n) ≡ true → broadcast_of e.stage ≡ None →
           woken_status (status_with status s e) ≡ status_with (woken_status status) s (finished message cycle e)
       woken-own status s e equal silent = λ i register. woken-one status s e register equal silent i where
-        woken-one : (status : RegisterStatus) (s : ℕ) (e : Entry) (register : ℕ) → (s == n) ≡ true → broadcast_of e.stage ≡ None →
+        woken-one : (status : RegisterStatus) (s : ℕ) (e : Entry) (register : ℕ) → (s == n) ≡ true →
+            broadcast_of e.stage ≡ None →
             woken_operand n value (status_with status s e register)
             ≡ status_with (woken_status status) s (finished message cycle e) register
         woken-one status s e register equal silent = grind arith
@@ -154,14 +156,16 @@ module _ (unit : Kind) where
             (busy-at status s d d.instruction out) ∙
             woken-later (status_with status s d) (s + 1) es (omega (arith, number)) ∙
             ap (λ st. waiting_from unit st (s + 1) es) (woken-own status s d (eq-eqb s n (sym number)) quiet) ∙
-            sym (ap (λ ws. ws ++ waiting_from unit (status_with (woken_status status) s (finished message cycle d)) (s + 1) es)
+            sym (ap (λ ws. ws ++ waiting_from unit
+            (status_with (woken_status status) s (finished message cycle d)) (s + 1) es)
             (busy-at (woken_status status) s (finished message cycle d) d.instruction refl))
             )
         | in_tail other is ↦
             rw other (
             map-append (woken n value) (waiting_at unit status s d d.instruction)
             (waiting_from unit (status_with status s d) (s + 1) es) ∙
-            (λ i. woken-at status s d d.instruction i ++ waiting-woken (status_with status s d) (s + 1) es e is busy silent i) ∙
+            (λ i. woken-at status s d d.instruction i ++ waiting-woken (status_with status s d) (s + 1)
+            es e is busy silent i) ∙
             ap (λ st. waiting_at unit (woken_status status) s d d.instruction ++ waiting_from unit st (s + 1)
             (with_entry (finished message cycle) n (s + 1) es))
             (woken-with status s d (ne_eqb s n (λ back. eqb-false n s other (sym back))))
@@ -169,7 +173,8 @@ module _ (unit : Kind) where
       ]
 
 -- ---- the pools
-stations_by : (values : Values) (registers : List ℕ) (rob : ReorderBuffer) (change : Pool → Pool) (new : ReorderBuffer) →
+stations_by : (values : Values) (registers : List ℕ) (rob : ReorderBuffer) (change : Pool →
+    Pool) (new : ReorderBuffer) →
     ((k : Kind) → change (pool_of_kind values registers rob k) ≡ pool_of_kind values registers new k)
     → for_each change (stations_of values registers rob) ≡ stations_of values registers new
 stations_by values registers rob change new is =
@@ -178,18 +183,21 @@ stations_by values registers rob change new is =
 -- the stations after a squash are those of the instructions that are left
 pub stations-squashed : (values : Values) (registers : List ℕ) (rob : ReorderBuffer) (n : ℕ) →
     for_each (squashed_pool n) (stations_of values registers rob) ≡ stations_of values registers (cut_from n rob)
-stations-squashed values registers rob n = stations_by values registers rob (squashed_pool n) (cut_from n rob) (λ k i. record {
-  waiting = waiting-cut k n (values_in registers) rob.retired rob.entries i;
-  capacity = (at_kind k values.kinds).stations;
-})
+stations-squashed values registers rob n =
+    stations_by values registers rob (squashed_pool n) (cut_from n rob) (λ k i. record {
+      waiting = waiting-cut k n (values_in registers) rob.retired rob.entries i;
+      capacity = (at_kind k values.kinds).stations;
+    })
 
 -- the stations that a result wakes are those of the instructions once it is known
-pub stations-woken : (values : Values) (registers : List ℕ) (rob : ReorderBuffer) (n cycle : ℕ) (message : Message) (e : Entry) →
+pub stations-woken : (values : Values) (registers : List ℕ) (rob : ReorderBuffer) (n cycle : ℕ)
+    (message : Message) (e : Entry) →
     entry_of n rob.retired rob.entries ≡ Some e → is_waiting e.stage ≡ false → broadcast_of e.stage ≡ None
     → for_each (woken_pool n message.value) (stations_of values registers rob)
     ≡ stations_of values registers (changed (finished message cycle) n rob)
 stations-woken values registers rob n cycle message e held busy silent =
-    stations_by values registers rob (woken_pool n message.value) (changed (finished message cycle) n rob) (λ k i. record {
+    stations_by values registers rob (woken_pool n message.value)
+    (changed (finished message cycle) n rob) (λ k i. record {
       waiting = waiting-woken k n message.value cycle message refl
           (values_in registers) rob.retired rob.entries e held busy silent i;
       capacity = (at_kind k values.kinds).stations;
@@ -229,10 +237,13 @@ with_none pools =
 abbrev first_stage_of : Option Kind → Bool → ℕ → Message → Stage
 first_stage_of unit serialising cycle message = stage_by unit serialising (stage.Finished None cycle message)
 
-with_station-is : (o : Option Kind) (serialising : Bool) (cycle : ℕ) (message : Message) (w : Station) (pools : PerKind Pool)
+with_station-is : (o : Option Kind) (serialising : Bool) (cycle : ℕ) (message : Message) (w : Station)
+    (pools : PerKind Pool)
     → with_station o w pools
-    ≡ with_each (λ k. cond (is_waiting (first_stage_of o serialising cycle message) && is_of_kind k o) (w ∷ []) []) pools
-with_station-is o serialising cycle message w pools = grind (arith, with_none, is_same-own, with_kind-by_kind, nothing_more)
+    ≡ with_each (λ k. cond (is_waiting (first_stage_of o serialising cycle message) && is_of_kind k o) (w ∷ []) [])
+    pools
+with_station-is o serialising cycle message w pools =
+    grind (arith, with_none, is_same-own, with_kind-by_kind, nothing_more)
 
 with_instruction-is : (status : RegisterStatus) (n : ℕ) (e : Entry) (o : Option Instr) (serialising : Bool) (cycle : ℕ)
     (message : Message) (pools : PerKind Pool) → e.instruction ≡ o →
@@ -241,7 +252,8 @@ with_instruction-is : (status : RegisterStatus) (n : ℕ) (e : Entry) (o : Optio
 with_instruction-is status n e o serialising cycle message pools is given = grind (arith, with_none, with_station-is)
 
 -- what a dispatch makes of the stations
-pub stations-push : (values : Values) (registers : List ℕ) (rob : ReorderBuffer) (e : Entry) (serialising : Bool) (cycle : ℕ)
+pub stations-push : (values : Values) (registers : List ℕ) (rob : ReorderBuffer) (e : Entry)
+    (serialising : Bool) (cycle : ℕ)
     (message : Message) → e.stage ≡ first_stage_of (kind_of_word e.instruction) serialising cycle message
     → stations_of values registers (pushed e rob)
     ≡ with_instruction (status_after (values_in registers) rob.retired rob.entries) (next_number rob) e.pc e.instruction
@@ -258,4 +270,5 @@ stations-push values registers rob e serialising cycle message at =
       waiting = waiting-push k (values_in registers) rob.retired n rob.entries e refl i;
       capacity = (at_kind k values.kinds).stations;
     }) ∙
-    sym (with_instruction-is status n e e.instruction serialising cycle message (stations_of values registers rob) refl at)
+    sym (with_instruction-is status n e e.instruction serialising cycle message
+    (stations_of values registers rob) refl at)

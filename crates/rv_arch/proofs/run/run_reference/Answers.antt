@@ -9,7 +9,8 @@ loop-stamp-init c = counted_none _ _ _ refl
 
 pub loop-stamp-preserved : goal.loop-stamp-preserved
 loop-stamp-preserved c =
-    let now = steps_by c.args.arrivals.now c.loop-stamp.stamp c.loop-stamp.reference c.step-step.new.self c.at.ensures c.step-step.ensures.step c.step-step.ensures.layout c.step-step.ensures.lines in
+    let now = steps_by c.args.arrivals.now c.loop-stamp.stamp c.loop-stamp.reference c.step-step.new.self c.at.ensures
+    c.step-step.ensures.step c.step-step.ensures.layout c.step-step.ensures.lines in
     counted_more c.loop-stamp.invariant now (not_stale _ c.in_default.not-Stale)
     (record {
       steps = c.count.ensures.steps;
@@ -20,12 +21,14 @@ loop-stamp-preserved c =
 
 pub returns-in-Stale : goal.returns-in-Stale
 returns-in-Stale c =
-    let now = steps_by c.args.arrivals.now c.loop-stamp.stamp c.loop-stamp.reference c.step-step.new.self c.at.ensures c.step-step.ensures.step c.step-step.ensures.layout c.step-step.ensures.lines in
+    let now = steps_by c.args.arrivals.now c.loop-stamp.stamp c.loop-stamp.reference c.step-step.new.self c.at.ensures
+    c.step-step.ensures.step c.step-step.ensures.layout c.step-step.ensures.lines in
     counted_to_stale c.loop-stamp.invariant now c.args.limit c.in-Stale.pc c.loop-stamp-test.true c.in-Stale.is
 
 pub returns-then-is_breakpoint : goal.returns-then-is_breakpoint
 returns-then-is_breakpoint c =
-    let now = steps_by c.args.arrivals.now c.loop-stamp.stamp c.loop-stamp.reference c.step-step.new.self c.at.ensures c.step-step.ensures.step c.step-step.ensures.layout c.step-step.ensures.lines in
+    let now = steps_by c.args.arrivals.now c.loop-stamp.stamp c.loop-stamp.reference c.step-step.new.self c.at.ensures
+    c.step-step.ensures.step c.step-step.ensures.layout c.step-step.ensures.lines in
     counted_to_breakpoint {counts' = c.count.new.self} c.loop-stamp.invariant now c.args.limit c.loop-stamp-test.true
     (not_stale _ c.in_default.not-Stale)
     (record {

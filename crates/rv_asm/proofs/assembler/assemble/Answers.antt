@@ -19,5 +19,9 @@ returns-clause-bytes c =
 
 pub returns-clause-refused : goal.returns-clause-refused
 returns-clause-refused c =
-    rw (c.in_ok-layout.ensures.clean, ← same_fault c.args.base c.args.text.now _ _ c.in_ok-layout.ensures.tells c.in_ok-layout.ensures.kept)
+    rw (
+      c.in_ok-layout.ensures.clean,
+      ← same_fault c.args.base c.args.text.now _ _ c.in_ok-layout.ensures.tells
+          c.in_ok-layout.ensures.kept,
+    )
     (search rules)

@@ -11,7 +11,10 @@ returns c =
     let low = take (bytes_of c.args.width) (to_le_bytes w32 (modulo_word c.args.number)) in
     let fits : fits_width c.args.width c.args.number ≡ true = search rules in
     let word : c.modulo_word.result ≡ modulo_word c.args.number = search rules in
-    let is : c.split_at.result.0.now ≡ low = c.split_at.ensures.front ∙ ap (λ n. take n c.as_slice.result.now) c.bytes.ensures ∙ ap (take (bytes_of c.args.width)) (c.as_slice.ensures ∙ c.to_le_bytes-bytes.ensures ∙ ap (to_le_bytes w32) word) in
+    let is : c.split_at.result.0.now ≡ low = c.split_at.ensures.front
+    ∙ ap (λ n. take n c.as_slice.result.now) c.bytes.ensures
+    ∙ ap (take (bytes_of c.args.width)) (c.as_slice.ensures ∙ c.to_le_bytes-bytes.ensures
+    ∙ ap (to_le_bytes w32) word) in
     record {
       parts = map Byte' low;
       means = rw fits refl;

@@ -7,7 +7,8 @@ pub loop-rest-preserved : goal.loop-rest-preserved
 loop-rest-preserved c =
     let rest = c.loop-rest.rest.now in
     let others = take_all (length rest - 1) (drop 1 rest) (omega (arith, length-drop 1 rest)) in
-    let words = next_words c.args.section c.args.layout.now.reach rest _ _ _ (omega arith) (rw others at c.reach_before.ensures) c.words_between-words.ensures in
+    let words = next_words c.args.section c.args.layout.now.reach rest _ _ _ (omega arith)
+    (rw others at c.reach_before.ensures) c.words_between-words.ensures in
     rw (c.in_ok-push_words.ensures, append_assoc, others, ← words) c.loop-rest.invariant
 
 pub returns : goal.returns

@@ -6,4 +6,5 @@ use Rattle.rv_asm.proofs.listing.push_trimmed.Goals as goal
 pub returns : goal.returns
 returns c =
     c.in_ok-extend_from_slice.ensures.items
-    ∙ ap (λ l. c.args.text.now.items ++ l) (trim_ascii_is c.args.bytes.now c.trim_ascii.result.now _ refl c.trim_ascii.ensures.value)
+    ∙ ap (λ l. c.args.text.now.items ++ l) (trim_ascii_is c.args.bytes.now c.trim_ascii.result.now _ refl
+    c.trim_ascii.ensures.value)

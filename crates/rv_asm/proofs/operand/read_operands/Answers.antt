@@ -5,5 +5,10 @@ use Rattle.rv_asm.proofs.operand.read_operands.Goals as goal
 
 pub returns : goal.returns
 returns c =
-    let some_tokens : 0 < length c.args.tokens.now = grind (arith, nat_tests, c.if-is_empty.ensures, c.if-is_empty.false, c.is_empty.ensures) in
-    rw (operands_of-pieces c.args.tokens.now some_tokens, ← c.in_ok-pieces.ensures, ← c.as_slice.ensures.value) c.read_pieces.ensures
+    let some_tokens : 0 < length c.args.tokens.now =
+    grind (arith, nat_tests, c.if-is_empty.ensures, c.if-is_empty.false, c.is_empty.ensures) in
+    rw (
+      operands_of-pieces c.args.tokens.now some_tokens,
+      ← c.in_ok-pieces.ensures,
+      ← c.as_slice.ensures.value,
+    ) c.read_pieces.ensures

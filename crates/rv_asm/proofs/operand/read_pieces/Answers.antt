@@ -12,17 +12,22 @@ loop-piece-init c = rw c.in_ok-operands.ensures.items (joined-nil operand_of _)
 
 pub loop-piece-preserved : goal.loop-piece-preserved
 loop-piece-preserved c =
-    let left = ap (map (λ piece. map token_of piece.now)) (drop_more c.args.pieces.now c.loop-piece.piece-index _ c.loop-piece-test.true) in
-    rw c.in_ok-push.ensures.items (joined-operand _ _ _ _ c.loop-piece.operands.items c.loop-piece.invariant left c.in-Some.operand c.in-Some.ensures)
+    let left = ap (map (λ piece. map token_of piece.now))
+    (drop_more c.args.pieces.now c.loop-piece.piece-index _ c.loop-piece-test.true) in
+    rw c.in_ok-push.ensures.items (joined-operand _ _ _ _ c.loop-piece.operands.items c.loop-piece.invariant left
+    c.in-Some.operand c.in-Some.ensures)
 
 pub returns-in_default : goal.returns-in_default
 returns-in_default c = λ _.
-    let left = ap (map (λ piece. map token_of piece.now)) (drop_more c.args.pieces.now c.loop-piece.piece-index _ c.loop-piece-test.true) in
-    ap (λ o. ok_or o BadOperands) (sym (joined-found _ _ _ _ c.loop-piece.operands.items c.loop-piece.invariant left None c.in_default.ensures))
+    let left = ap (map (λ piece. map token_of piece.now))
+    (drop_more c.args.pieces.now c.loop-piece.piece-index _ c.loop-piece-test.true) in
+    ap (λ o. ok_or o BadOperands)
+    (sym (joined-found _ _ _ _ c.loop-piece.operands.items c.loop-piece.invariant left None c.in_default.ensures))
 
 pub returns : goal.returns
 returns c =
-    let none_left = ap (map (λ piece. map token_of piece.now)) (drop_all c.loop-piece.piece-index c.args.pieces.now (omega (arith, c.loop-piece-test.false))) in
+    let none_left = ap (map (λ piece. map token_of piece.now))
+    (drop_all c.loop-piece.piece-index c.args.pieces.now (omega (arith, c.loop-piece-test.false))) in
     ap (λ o. ok_or o BadOperands)
     (sym c.loop-piece.invariant ∙ ap (λ l. joined operand_of c.loop-piece.operands.items (operands_in l)) none_left
     ∙ joined-end operand_of _)

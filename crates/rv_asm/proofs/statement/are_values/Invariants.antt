@@ -7,7 +7,8 @@ use Rattle.rv_asm.proofs.statement.are_values.Given as goal
 
 -- each piece so far is one
 abbrev pub invariant-loop-rest : goal.invariant-loop-rest
-invariant-loop-rest l = list_all is_value (slice_split is_comma (tokens_in l.tokens)) ≡ list_all is_value (pieces_left l.rest)
+invariant-loop-rest l = list_all is_value (slice_split is_comma (tokens_in l.tokens))
+    ≡ list_all is_value (pieces_left l.rest)
 
 abbrev pub decreases-loop-rest : goal.decreases-loop-rest
 decreases-loop-rest l = option_map_or (λ rest. length rest.now + 1) l.rest 0

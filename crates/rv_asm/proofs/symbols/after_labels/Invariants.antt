@@ -9,7 +9,8 @@ use Rattle.rv_asm.proofs.symbols.after_labels.Given as goal
 abbrev pub invariant-loop-name : goal.invariant-loop-name
 invariant-loop-name l = record {
   body : body_of (tokens_in l.tokens) ≡ body_of (tokens_in l.rest);
-  start : list_any is_start (labels_of (tokens_in l.tokens)) ≡ (l.starts || list_any is_start (labels_of (tokens_in l.rest)));
+  start : list_any is_start (labels_of (tokens_in l.tokens))
+      ≡ (l.starts || list_any is_start (labels_of (tokens_in l.rest)));
 }
 
 abbrev pub decreases-loop-name : goal.decreases-loop-name

@@ -10,7 +10,9 @@ escaped : (raw : List ℕ) → 2 ≤ length raw → get_or raw 0 0 ≡ 92 →
 unfolding unescaped
 escaped [] long first = absurd (omega arith)
 escaped (byte ∷ []) long first = absurd (omega arith)
-escaped (byte ∷ next ∷ bytes) long first = rw (first, take_all (length (byte ∷ next ∷ bytes) - 2) bytes (omega arith)) refl
+escaped (byte ∷ next ∷ bytes) long first =
+    rw (first, take_all (length (byte ∷ next ∷ bytes) - 2) bytes (omega arith)) refl
 
 pub returns-in-92-clause-character : goal.returns-in-92-clause-character
-returns-in-92-clause-character c = rw (c.unwrap_or.ensures, c.escape.ensures) (escaped c.args.raw.now (omega arith) (omega arith))
+returns-in-92-clause-character c =
+    rw (c.unwrap_or.ensures, c.escape.ensures) (escaped c.args.raw.now (omega arith) (omega arith))

@@ -14,12 +14,14 @@ returns-in_err-first c =
 
 pub returns-then-branch-eq43 : goal.returns-then-branch-eq43
 returns-then-branch-eq43 c =
-    let plus : slice_index c.args.digits.now 0 ≡ 43 = omega (arith, first_is c.args.digits.now c.in_ok-first.field-0.now c.in_ok-first.ensures.value) in
+    let plus : slice_index c.args.digits.now 0 ≡ 43 =
+    omega (arith, first_is c.args.digits.now c.in_ok-first.field-0.now c.in_ok-first.ensures.value) in
     number_in-none c.args.base c.args.digits.now (plus_is_no_digit c.args.base c.args.digits.now (omega arith) plus)
 
 pub returns-in-Ok : goal.returns-in-Ok
 returns-in-Ok c =
-    let no_plus : slice_index c.args.digits.now 0 ≢ 43 = omega (arith, first_is c.args.digits.now c.in_ok-first.field-0.now c.in_ok-first.ensures.value) in
+    let no_plus : slice_index c.args.digits.now 0 ≢ 43 =
+    omega (arith, first_is c.args.digits.now c.in_ok-first.field-0.now c.in_ok-first.ensures.value) in
     let text_is = ap without_leading_plus c.in-Ok.ensures.cases.0 ∙ without_plus c.args.digits.now no_plus in
     c.ok.ensures.value
     ∙ number_in-read c.args.base c.args.digits.now c.from_str_radix.result

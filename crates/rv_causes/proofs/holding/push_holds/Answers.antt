@@ -5,4 +5,5 @@ use Rattle.rv_causes.proofs.holding.push_holds.Goals as goal
 pub returns-else-any_begins_hold-clause-items : goal.returns-else-any_begins_hold-clause-items
 returns-else-any_begins_hold-clause-items c =
     let none = sym c.any_begins_hold.ensures ∙ c.if-any_begins_hold.false in
-    rw (no_new_holds c.args.number c.args.values.now c.args.rows.now c.args.ways.now none) (sym (append-nil c.args.holds.now.items))
+    rw (no_new_holds c.args.number c.args.values.now c.args.rows.now c.args.ways.now none)
+    (sym (append-nil c.args.holds.now.items))

@@ -9,7 +9,8 @@ use Rattle.rv_causes.proofs.meeting.meet.Given as goal
 abbrev pub invariant-loop-front : goal.invariant-loop-front
 invariant-loop-front l = record {
   within : l.front ≤ length l.events;
-  covers : (point : Option Point) → IsAmong point l.initial.wanted.items → IsAmong (beyond (reverse (drop l.front l.events)) point) l.wanted.items;
+  covers : (point : Option Point) → IsAmong point l.initial.wanted.items →
+      IsAmong (beyond (reverse (drop l.front l.events)) point) l.wanted.items;
   come : (root : Option Point) → AllComeTo root (reverse l.events) l.initial.wanted.items
       → AllComeTo root (reverse (take l.front l.events)) l.wanted.items;
 }

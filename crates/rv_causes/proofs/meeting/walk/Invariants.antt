@@ -7,7 +7,8 @@ use Rattle.rv_causes.proofs.meeting.walk.Given as goal
 abbrev pub invariant-loop-front : goal.invariant-loop-front
 invariant-loop-front l = record {
   within : l.front ≤ length l.events;
-  path_is : l.path.items ++ path_to (reverse (take l.front l.events)) l.wanted ≡ l.initial.path.items ++ path_to (reverse l.events) l.fn.wanted;
+  path_is : l.path.items ++ path_to (reverse (take l.front l.events)) l.wanted ≡ l.initial.path.items
+      ++ path_to (reverse l.events) l.fn.wanted;
   wanted_is : beyond (reverse (take l.front l.events)) l.wanted ≡ beyond (reverse l.events) l.fn.wanted;
   room : length l.path.items + l.front ≤ vec_capacity l.path;
   capacity : vec_capacity l.initial.path ≤ vec_capacity l.path;

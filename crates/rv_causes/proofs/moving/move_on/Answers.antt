@@ -14,13 +14,16 @@ returns-in_default-clause-items c =
 
 pub returns-in_default-advance_of-clause-ways : goal.returns-in_default-advance_of-clause-ways
 returns-in_default-advance_of-clause-ways c =
-    sym (moved_here (setting_of c.args.scene.now) c.args.leaving.now c.args.place c.args.ways.now c.in-Some.found c.in-Some.ensures
+    sym (moved_here (setting_of c.args.scene.now) c.args.leaving.now c.args.place c.args.ways.now
+    c.in-Some.found c.in-Some.ensures
     _ _ c.row-row.ensures c.way-way.ensures None c.in_default-advance_of.ensures)
 
 pub returns-in_default-advance_of-clause-items : goal.returns-in_default-advance_of-clause-items
 returns-in_default-advance_of-clause-items c =
-    rw (new_here (setting_of c.args.scene.now) c.args.leaving.now c.args.place c.args.ways.now c.in-Some.found c.in-Some.ensures
-    _ _ c.row-row.ensures c.way-way.ensures None c.in_default-advance_of.ensures) (sym (append-nil c.args.events.now.items))
+    rw (new_here (setting_of c.args.scene.now) c.args.leaving.now c.args.place c.args.ways.now
+    c.in-Some.found c.in-Some.ensures
+    _ _ c.row-row.ensures c.way-way.ensures None c.in_default-advance_of.ensures)
+    (sym (append-nil c.args.events.now.items))
 
 pub returns-clause-ways : goal.returns-clause-ways
 returns-clause-ways c =
@@ -33,7 +36,8 @@ returns-clause-ways c =
     let view = c.advance.view_is in
     let set =
     c.set.ensures
-    ∙ ap (λ (w : Way). with_stage c.advance.inside.stage c.made_of-event.result w) (way_at c.args.place s.rows ways j c.in-Some.ensures _)
+    ∙ ap (λ (w : Way). with_stage c.advance.inside.stage c.made_of-event.result w)
+    (way_at c.args.place s.rows ways j c.in-Some.ensures _)
     ∙ ap (λ (e : Event). with_stage c.advance.inside.stage e j.way) c.made_of-event.ensures
     ∙ (λ i. with_stage (view i).stage (made_of s (view i).stage (c.row-row.ensures i) (view i).waited) j.way) in
     ap (λ (w : Way). slice_set ways c.args.place w) set ∙ sym here

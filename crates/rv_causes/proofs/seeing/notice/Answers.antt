@@ -17,11 +17,13 @@ returns-clause-items c =
     let events = c.args.events.now.items in
     let taken = interrupt_taken s c.is_interrupted-interrupted.result in
     let port = port_event c.see_port.new.port in
-    let fetched = new_fetched s ways c.is_interrupted-interrupted.result leaving after (option_copied c.first_fetched-first.result) in
+    let fetched = new_fetched s ways c.is_interrupted-interrupted.result leaving after
+    (option_copied c.first_fetched-first.result) in
     let held = c.see_port.ensures.port in
     let is = c.is_interrupted-interrupted.ensures in
     c.see_fetched.ensures.items
-    ∙ ap (λ (es : List Event). es ++ fetched) (c.see_port.ensures.items ∙ ap (λ (es : List Event). es ++ port) c.push_interrupt_if.ensures.items)
+    ∙ ap (λ (es : List Event). es ++ fetched) (c.see_port.ensures.items
+    ∙ ap (λ (es : List Event). es ++ port) c.push_interrupt_if.ensures.items)
     ∙ append_assoc (events ++ taken) port fetched ∙ append_assoc events taken (port ++ fetched)
     ∙ (λ i. events
     ++ (interrupt_taken s (is i)

@@ -25,11 +25,13 @@ returns c =
       seen = record {
         moved = c.move_all.ensures.ways ∙ ap (λ (leaving : Leaving). all_moved s leaving old) gone;
         before = c.notice.ensures.before ∙ ap (λ (leaving : Leaving). before_next s ways steps after leaving) gone;
-        fetched = c.notice.ensures.fetch ∙ ap (λ (leaving : Leaving). fetch_event s ways (is_interrupted steps) leaving after) gone;
+        fetched = c.notice.ensures.fetch
+            ∙ ap (λ (leaving : Leaving). fetch_event s ways (is_interrupted steps) leaving after) gone;
       };
       items =
           c.notice.ensures.items
-          ∙ ap (λ (es : List Event). es ++ beside) (c.move_all.ensures.items ∙ ap (λ (es : List Event). es ++ moves) c.push_left.ensures.items)
+          ∙ ap (λ (es : List Event). es ++ beside) (c.move_all.ensures.items
+          ∙ ap (λ (es : List Event). es ++ moves) c.push_left.ensures.items)
           ∙ append_assoc (events ++ left) moves beside ∙ append_assoc events left (moves ++ beside)
           ∙ (λ i. events ++ new_events s old (c.move_all.ensures.ways i) steps after leaving)
           ∙ ap (λ (leaving : Leaving). events ++ new_events s old (all_moved s leaving old) steps after leaving) gone;

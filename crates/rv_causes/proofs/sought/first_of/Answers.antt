@@ -7,5 +7,6 @@ pub returns : goal.returns
 returns c =
     let rows = drop c.loop-place.place c.args.rows.now in
     let ways = drop c.loop-place.place c.args.ways.now in
-    let few : length ways < 1 = omega (arith, length-drop c.loop-place.place c.args.ways.now, c.loop-place-test.false) in
+    let few : length ways < 1 =
+    omega (arith, length-drop c.loop-place.place c.args.ways.now, c.loop-place-test.false) in
     sym (first_of_nothing c.args.sought rows ways few) ∙ c.loop-place.invariant

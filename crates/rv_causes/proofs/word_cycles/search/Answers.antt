@@ -10,7 +10,8 @@ returns-then-here-address-clause-found c =
     let here = c.address_at-here.ensures (no_cycles 0) in
     record {
       within = within;
-      before = λ k w low. let under = in_order-lt c.args.words.now k middle w (no_cycles 0) c.requires.order low within in omega (arith, under, here, c.if-here-address.true);
+      before = λ k w low. let under = in_order-lt c.args.words.now k middle w (no_cycles 0) c.requires.order low
+          within in omega (arith, under, here, c.if-here-address.true);
       there = λ w. let same = c.address_at-here.ensures w in omega (arith, same, c.if-here-address.true);
     }
 
@@ -21,7 +22,8 @@ loop-low-preserved-then-here-address-2 c =
     let here = c.address_at-here.ensures (no_cycles 0) in (
       omega (arith, so_far.0, c.loop-low-test.true),
       so_far.1,
-      λ k w low. let along = in_order-le c.args.words.now k middle w (no_cycles 0) c.requires.order (omega (arith, low)) (omega (arith, so_far.1, c.loop-low-test.true)) in
+      λ k w low. let along = in_order-le c.args.words.now k middle w (no_cycles 0) c.requires.order (omega (arith, low))
+          (omega (arith, so_far.1, c.loop-low-test.true)) in
           omega (arith, along, here, c.if-here-address-2.true),
       so_far.3,
     )
@@ -35,6 +37,7 @@ loop-low-preserved c =
       omega arith,
       omega (arith, so_far.1, c.loop-low-test.true),
       so_far.2,
-      λ k w from within. let along = in_order-le c.args.words.now middle k (no_cycles 0) w c.requires.order (omega (arith, from)) within in
+      λ k w from within. let along = in_order-le c.args.words.now middle k (no_cycles 0) w c.requires.order
+          (omega (arith, from)) within in
           omega (arith, along, here, above),
     )

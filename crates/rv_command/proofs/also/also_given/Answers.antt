@@ -6,8 +6,10 @@ use Rattle.rv_command.proofs.also.also_given.Goals as goal
 
 pub returns-in-Some : goal.returns-in-Some
 returns-in-Some c =
-    c.settings.ensures ∙ ap settings_of (texts_held _ (found_of c.args.given.now) (codes "also") c.get_strs.ensures c.in-Some.is)
+    c.settings.ensures ∙ ap settings_of
+    (texts_held _ (found_of c.args.given.now) (codes "also") c.get_strs.ensures c.in-Some.is)
 
 pub returns-in-None : goal.returns-in-None
 returns-in-None c =
-    c.settings-in-None.ensures ∙ ap settings_of (texts_held _ (found_of c.args.given.now) (codes "also") c.get_strs.ensures c.in-None.is)
+    c.settings-in-None.ensures
+    ∙ ap settings_of (texts_held _ (found_of c.args.given.now) (codes "also") c.get_strs.ensures c.in-None.is)

@@ -10,5 +10,7 @@ returns-in-Some c = subst (λ (texts : List Text). IfOk c.also_line.result (λ l
     (texts_held _ (found_of c.args.given.now) (codes "also") c.get_strs.ensures c.in-Some.is) c.also_line.ensures
 
 pub returns-in-None : goal.returns-in-None
-returns-in-None c = subst (λ (texts : List Text). IfOk c.also_line-in-None.result (λ line. line.bytes.items ≡ also_line texts))
-    (texts_held _ (found_of c.args.given.now) (codes "also") c.get_strs.ensures c.in-None.is) c.also_line-in-None.ensures
+returns-in-None c = subst
+    (λ (texts : List Text). IfOk c.also_line-in-None.result (λ line. line.bytes.items ≡ also_line texts))
+    (texts_held _ (found_of c.args.given.now) (codes "also") c.get_strs.ensures c.in-None.is)
+    c.also_line-in-None.ensures

@@ -4,4 +4,7 @@ pub returns : goal.returns
 returns c =
     let with_from = c.with_argument-with_from.ensures.arguments _ _ c.bare_picture_command.ensures.arguments
     c.from_argument.ensures.rule c.from_argument.ensures.local in
-    record { arguments = c.with_argument.ensures.arguments _ _ with_from c.number_argument.ensures.rule c.number_argument.ensures.local }
+    record {
+      arguments = c.with_argument.ensures.arguments _ _ with_from c.number_argument.ensures.rule
+          c.number_argument.ensures.local;
+    }

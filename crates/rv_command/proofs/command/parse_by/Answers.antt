@@ -4,14 +4,17 @@ use Rattle.rv_command.proofs.command.parse_by.Goals as goal
 
 pub returns-in_err-command-clause-refused : goal.returns-in_err-command-clause-refused
 returns-in_err-command-clause-refused c =
-    let either = refused_words (map (λ w. w.bytes.items) c.args.words.now) c.in_err-command.field-0.0 c.in_err-command.ensures.kinds in
+    let either = refused_words (map (λ w. w.bytes.items) c.args.words.now) c.in_err-command.field-0.0
+    c.in_err-command.ensures.kinds in
     search rules
 
 pub returns-in_err-command-clause-kind : goal.returns-in_err-command-clause-kind
 returns-in_err-command-clause-kind c =
-    let has = refused_kind (map (λ w. w.bytes.items) c.args.words.now) c.in_err-command.field-0.0 c.in_err-command.ensures.kinds in
+    let has = refused_kind (map (λ w. w.bytes.items) c.args.words.now) c.in_err-command.field-0.0
+    c.in_err-command.ensures.kinds in
     search rules
 
 pub returns-in-Err-clause-kind : goal.returns-in-Err-clause-kind
 returns-in-Err-clause-kind c =
-    other_kind (map (λ w. w.bytes.items) c.args.words.now) c.refusal.result c.in_ok-command.ensures.kinds c.refusal.ensures.kind
+    other_kind (map (λ w. w.bytes.items) c.args.words.now) c.refusal.result c.in_ok-command.ensures.kinds
+    c.refusal.ensures.kind

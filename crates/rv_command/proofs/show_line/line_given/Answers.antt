@@ -10,5 +10,7 @@ returns-in-Some c = subst (λ (texts : List Text). IfOk c.show_line.result (λ l
     (texts_held _ (found_of c.args.given.now) (codes "show") c.get_strs.ensures c.in-Some.is) c.show_line.ensures
 
 pub returns-in-None : goal.returns-in-None
-returns-in-None c = subst (λ (texts : List Text). IfOk c.show_line-in-None.result (λ line. line.bytes.items ≡ show_line texts))
-    (texts_held _ (found_of c.args.given.now) (codes "show") c.get_strs.ensures c.in-None.is) c.show_line-in-None.ensures
+returns-in-None c = subst
+    (λ (texts : List Text). IfOk c.show_line-in-None.result (λ line. line.bytes.items ≡ show_line texts))
+    (texts_held _ (found_of c.args.given.now) (codes "show") c.get_strs.ensures c.in-None.is)
+    c.show_line-in-None.ensures

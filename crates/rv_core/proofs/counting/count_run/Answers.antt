@@ -7,7 +7,8 @@ use Rattle.rv_core.proofs.counting.count_run.Goals as goal
 
 pub loop-init : goal.loop-init
 loop-init g c = (
-  counting_nothing c.args.arrivals.now _ c.new-progress.result c.counting-steps.result c.new-progress.ensures c.counting-steps.ensures,
+  counting_nothing c.args.arrivals.now _ c.new-progress.result c.counting-steps.result c.new-progress.ensures
+      c.counting-steps.ensures,
   ap (λ (p : Progress). p.cycles) c.new-progress.ensures,
 )
 
@@ -39,14 +40,18 @@ returns-then-is_exhausted g c =
     let way = c.loop.invariant.0 in
     let count = so_many_shown HasTaken c.args.arrivals.now _ uncounted None way c.loop.counter c.loop.invariant.1 in
     let over = all_done c.is_exhausted.ensures.exhausted c.if-is_exhausted.true in
-    counted_to c.args.arrivals.now _ way c.args.limit Exhausted
-    (way.none_stops, omega (arith, count, c.loop-test.true), omega (arith, over, c.is_exhausted.ensures.within)) _ c.counts.ensures
+    counted_to c.args.arrivals.now _ way c.args.limit Exhausted (
+      way.none_stops,
+      omega (arith, count, c.loop-test.true),
+      omega (arith, over, c.is_exhausted.ensures.within),
+    ) _ c.counts.ensures
 
 pub returns-in-Some : goal.returns-in-Some
 returns-in-Some g c =
     let within = cycle_left c.is_exhausted.ensures.exhausted c.if-is_exhausted.false in
     counted_to_stop c.args.arrivals.now _ c.loop.invariant.0 c.run_cycle.ensures within
-    c.args.limit c.in-Some.stop c.in-Some.is (omega (arith, c.loop.invariant.1, c.loop-test.true)) _ c.counts-in-Some.ensures
+    c.args.limit c.in-Some.stop c.in-Some.is (omega (arith, c.loop.invariant.1, c.loop-test.true)) _
+    c.counts-in-Some.ensures
 
 pub loop-preserved : goal.loop-preserved
 loop-preserved g c =

@@ -7,7 +7,8 @@ returns-in_default-lookup-clause-operand c =
     let register = c.in-Some.register in
     let rob = c.args.rob.now in
     let registers = c.args.registers.now in
-    let looked = sym (c.lookup.ensures.youngest ∙ ap (youngest register) c.requires.producers) ∙ c.in_default-lookup.is in
+    let looked = sym (c.lookup.ensures.youngest ∙ ap (youngest register) c.requires.producers)
+    ∙ c.in_default-lookup.is in
     rw (c.in-Some.is, c.index.ensures.number)
     (sym (status-is register (values_in registers) rob.retired rob.entries
     ∙ ap (λ o. operand_from (values_in registers register) o rob.retired rob.entries) looked))

@@ -4,14 +4,16 @@ use Rattle.rv_core.proofs.Words.{effect_message, result_in, result_of_word}
 use Rattle.rv_core.proofs.execute.result_at_dispatch.Goals as goal
 
 -- an instruction without a unit that neither serialises nor faults only goes on
-passed : (instruction : Instr) → (instruction ≡ Ecall → ⊥) → (instruction ≡ Ebreak → ⊥) → kind_of_word (Some instruction) ≡ None →
+passed : (instruction : Instr) → (instruction ≡ Ecall → ⊥) → (instruction ≡ Ebreak → ⊥) →
+    kind_of_word (Some instruction) ≡ None →
     is_serialising (Some instruction) ≡ false → (layout : Layout) (s : State) (lines : Lines) (word : ℕ) →
     effect_message None (goes_to s (pc_plus_4 s.pc)) ≡ result_in layout s lines word instruction
 passed Ecall call break none serial layout s lines word = absurd (call refl)
 passed Ebreak call break none serial layout s lines word = absurd (break refl)
 passed _ call break none serial layout s lines word = cc
 
-of_word : (layout : Layout) (s : State) (lines : Lines) (word : Option ℕ) (decoded : Option Instr) (n : ℕ) (instruction : Instr)
+of_word : (layout : Layout) (s : State) (lines : Lines) (word : Option ℕ) (decoded : Option Instr)
+    (n : ℕ) (instruction : Instr)
     (m : Message) → word ≡ Some n → decoded ≡ Some instruction → m ≡ result_in layout s lines n instruction →
     m ≡ result_of_word layout s lines word decoded
 of_word layout s lines word decoded n instruction m is known given = rw (is, known) given

@@ -45,7 +45,8 @@ returns-in-FromCache-clause-message c = λ s at after.
 pub read-cost-requires : goal.read-cost-requires
 read-cost-requires c = record {
   access = accesses c.args.cache.now (older_than c.args.ready.now.seq c.args.queue.now.stores) c.requires.over_ram
-      c.width-width.result c.address-place.result c.bytes.result c.in-FromCache.overlay (sym c.path_of.ensures ∙ c.in-FromCache.is)
+      c.width-width.result c.address-place.result c.bytes.result c.in-FromCache.overlay
+      (sym c.path_of.ensures ∙ c.in-FromCache.is)
       c.bytes.ensures;
 }
 
@@ -55,6 +56,7 @@ returns-in-Without-clause-message c = λ s at after.
     let stores = older_than c.args.ready.now.seq c.args.queue.now.stores in
     c.faulted.ensures
     ∙ ap (fault_message c.in-Without.cause) c.address-place.ensures
-    ∙ from_fault cache stores s c.args.form c.args.rd (sum c.args.ready.now.first (modulo_word c.args.offset)) c.in-Without.cause
+    ∙ from_fault cache stores s c.args.form c.args.rd
+    (sum c.args.ready.now.first (modulo_word c.args.offset)) c.in-Without.cause
     ((λ j. path_of cache.backing.layout stores (sym c.address-place.ensures j) (bytes_of (sym c.width-width.ensures j)))
     ∙ sym c.path_of.ensures ∙ c.in-Without.is)

@@ -7,8 +7,10 @@ use Rattle.rv_core.proofs.parts.cache_at_reset.Goals as goal
 pub new-requires-2-clause-lines : goal.new-requires-2-clause-lines
 new-requires-2-clause-lines c =
     let sized : length c.load.new.self.bytes ≡ c.load.new.self.layout.size = c.load.ensures.sized in
-    let kept : c.load.new.self.layout.size ≡ c.in_ok-ram.ram.layout.size = ap (λ m. m.layout.size) c.load.ensures.loaded in
-    let made : c.in_ok-ram.ram.layout.size ≡ c.values-values.result.ram_size = ap (λ m. m.layout.size) c.in_ok-ram.ensures in
+    let kept : c.load.new.self.layout.size ≡ c.in_ok-ram.ram.layout.size =
+    ap (λ m. m.layout.size) c.load.ensures.loaded in
+    let made : c.in_ok-ram.ram.layout.size ≡ c.values-values.result.ram_size =
+    ap (λ m. m.layout.size) c.in_ok-ram.ensures in
     let legal = c.values-values.ensures.legal in
     let shape = legal.cache.0 in
     let values = c.values-values.result in
@@ -25,7 +27,8 @@ returns c =
     let image = c.args.image.now.bytes in
     let ram : c.load.new.self ≡ record { layout = layout_of d; bytes = reset_bytes d image } =
     c.load.ensures.loaded ∙
-    (λ i. record (c.in_ok-ram.ensures i) { bytes = overwritten (c.in_ok-ram.ensures i).bytes 0 (c.as_slice.ensures i) }) ∙
+    (λ i. record (c.in_ok-ram.ensures i) { bytes = overwritten (c.in_ok-ram.ensures i).bytes 0 (c.as_slice.ensures i) })
+    ∙
     (λ i. record {
       layout = layout_of (c.values-values.ensures.values i);
       bytes = overwritten (replicate (c.values-values.ensures.values i).ram_size 0) 0 image;
@@ -38,4 +41,5 @@ returns c =
       sets = replicate d.cache.sets [];
       backing = memory;
     } in
-    IfOk-weaker c.new-2.result _ _ (λ cache is. is ∙ (λ i. made (c.values-values.ensures.values i).ram_base (ram i))) c.new-2.ensures
+    IfOk-weaker c.new-2.result _ _ (λ cache is. is
+    ∙ (λ i. made (c.values-values.ensures.values i).ram_base (ram i))) c.new-2.ensures

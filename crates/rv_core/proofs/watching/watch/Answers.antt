@@ -56,8 +56,10 @@ show-requires-clause-shown g c =
       c.args.watcher.now,
       _,
       c.requires.ready.0,
-      shown_now g.T.Watcher.has_seen c.args.arrivals.now _ c.args.watcher.now _ way (next_reported c.run_cycle-stop.ensures)
-          refl (c.as_slice.ensures ∙ listed_anew c.run_cycle-stop.ensures.taken (c.clear.ensures.kept ∙ c.loop.invariant.2) c.clear.ensures.none)
+      shown_now g.T.Watcher.has_seen c.args.arrivals.now _ c.args.watcher.now _ way
+          (next_reported c.run_cycle-stop.ensures)
+          refl (c.as_slice.ensures ∙ listed_anew c.run_cycle-stop.ensures.taken (c.clear.ensures.kept
+          ∙ c.loop.invariant.2) c.clear.ensures.none)
           c.cycles_done-cycle.ensures.reached number
           (omega (arith, number, within)),
       way.seen c.requires.ready.0 c.requires.ready.1,
@@ -72,10 +74,12 @@ returns-in-Some g c =
     let next = c.run_cycle-stop.ensures in
     let steps_are = c.as_slice.ensures
     ∙ listed_anew next.taken (c.clear.ensures.kept ∙ c.loop.invariant.2) c.clear.ensures.none in
-    let shown = shown_now g.T.Watcher.has_seen c.args.arrivals.now _ c.args.watcher.now _ way (next_reported next) refl steps_are
+    let shown = shown_now g.T.Watcher.has_seen c.args.arrivals.now _ c.args.watcher.now _ way
+    (next_reported next) refl steps_are
     c.cycles_done-cycle.ensures.reached number (omega (arith, number, within)) in
     ended_as c.finished-in-Some.ensures.progress c.finished-in-Some.ensures.stop
-    (watched_to_stop g.T.Watcher.has_seen c.args.arrivals.now _ c.args.watcher.now _ way (next_reported next) refl steps_are
+    (watched_to_stop g.T.Watcher.has_seen c.args.arrivals.now _ c.args.watcher.now _ way
+    (next_reported next) refl steps_are
     c.cycles_done-cycle.ensures.reached number (omega (arith, number, within))
     (λ before. c.show.ensures c.args.watcher.now _ before shown) c.args.limit c.in-Some.stop c.in-Some.is
     (omega (arith, c.loop.invariant.1, c.loop-test.true)))
@@ -89,9 +93,11 @@ loop-preserved g c =
     let next = c.run_cycle-stop.ensures in
     let steps_are = c.as_slice.ensures
     ∙ listed_anew next.taken (c.clear.ensures.kept ∙ c.loop.invariant.2) c.clear.ensures.none in
-    let shown = shown_now g.T.Watcher.has_seen c.args.arrivals.now _ c.args.watcher.now _ way (next_reported next) refl steps_are
+    let shown = shown_now g.T.Watcher.has_seen c.args.arrivals.now _ c.args.watcher.now _ way
+    (next_reported next) refl steps_are
     c.cycles_done-cycle.ensures.reached number (omega (arith, number, within)) in (
-      watching_on g.T.Watcher.has_seen c.args.arrivals.now _ c.args.watcher.now _ way (next_reported next) refl steps_are
+      watching_on g.T.Watcher.has_seen c.args.arrivals.now _ c.args.watcher.now _ way
+          (next_reported next) refl steps_are
           c.cycles_done-cycle.ensures.reached number (omega (arith, number, within))
           (λ before. c.show.ensures c.args.watcher.now _ before shown) c.in_default-stop.is,
       ap (λ (p : Progress). p.cycles) next.counted ∙ ap (λ n. n + 1) c.loop.invariant.1,

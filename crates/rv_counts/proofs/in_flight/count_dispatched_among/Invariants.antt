@@ -4,4 +4,5 @@ use Rattle.rv_counts.proofs.in_flight.count_dispatched_among.Given as goal
 
 abbrev pub invariant-loop-entry : goal.invariant-loop-entry
 invariant-loop-entry l =
-    (l.dispatched ≡ count_by (λ (e : Entry). e.dispatched == l.cycle) (take l.entry-index l.entries)) × (l.dispatched ≤ l.entry-index)
+    (l.dispatched ≡ count_by (λ (e : Entry). e.dispatched == l.cycle) (take l.entry-index l.entries))
+    × (l.dispatched ≤ l.entry-index)

@@ -18,6 +18,13 @@ returns c =
       serialising =
           counted_runs (λ (e : Entry). is_serialising e.instruction) old.now young.now all _ _ c.entries.ensures
           first.serialising second.serialising;
-      stationed = counted_runs (is_stationed c.args.kind) old.now young.now all _ _ c.entries.ensures first.stationed second.stationed;
-      few = omega (arith, ap length c.entries.ensures, length-append old.now young.now, first.dispatched_few, second.dispatched_few);
+      stationed = counted_runs (is_stationed c.args.kind) old.now young.now all _ _ c.entries.ensures
+          first.stationed second.stationed;
+      few = omega (
+        arith,
+        ap length c.entries.ensures,
+        length-append old.now young.now,
+        first.dispatched_few,
+        second.dispatched_few,
+      );
     }

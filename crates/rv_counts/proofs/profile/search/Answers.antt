@@ -11,9 +11,12 @@ returns-then-here-address-clause-found c =
     let here = ap (λ (w : WordCounts). w.address) c.index-words-middle.is in
     record {
       within = within;
-      before = λ k w low. let under = in_order-lt c.args.words.now k middle w c.index-words-middle.result c.requires.order low within in omega (arith, under, here, c.if-here-address.true);
-      there = λ w. let low = in_order-le c.args.words.now middle middle w c.index-words-middle.result c.requires.order (omega arith) within in
-          let high = in_order-le c.args.words.now middle middle c.index-words-middle.result w c.requires.order (omega arith) within in
+      before = λ k w low. let under = in_order-lt c.args.words.now k middle w c.index-words-middle.result
+          c.requires.order low within in omega (arith, under, here, c.if-here-address.true);
+      there = λ w. let low = in_order-le c.args.words.now middle middle w c.index-words-middle.result c.requires.order
+          (omega arith) within in
+          let high = in_order-le c.args.words.now middle middle c.index-words-middle.result w c.requires.order
+          (omega arith) within in
           omega (arith, low, high, here, c.if-here-address.true);
     }
 
@@ -24,7 +27,8 @@ loop-low-preserved-then-here-address-2 c =
     let here = ap (λ (w : WordCounts). w.address) c.index-words-middle.is in (
       omega (arith, so_far.0, c.loop-low-test.true),
       so_far.1,
-      λ k w low. let along = in_order-le c.args.words.now k middle w c.index-words-middle.result c.requires.order (omega (arith, low)) (omega (arith, so_far.1, c.loop-low-test.true)) in
+      λ k w low. let along = in_order-le c.args.words.now k middle w c.index-words-middle.result c.requires.order
+          (omega (arith, low)) (omega (arith, so_far.1, c.loop-low-test.true)) in
           omega (arith, along, here, c.if-here-address-2.true),
       so_far.3,
     )
@@ -38,6 +42,7 @@ loop-low-preserved c =
       omega arith,
       omega (arith, so_far.1, c.loop-low-test.true),
       so_far.2,
-      λ k w from within. let along = in_order-le c.args.words.now middle k c.index-words-middle.result w c.requires.order (omega (arith, from)) within in
+      λ k w from within. let along = in_order-le c.args.words.now middle k c.index-words-middle.result w
+          c.requires.order (omega (arith, from)) within in
           omega (arith, along, here, above),
     )

@@ -14,4 +14,5 @@ returns-clause-offset c =
     let bits_10_5 : bits c.joined.result 30 25 ≡ bits c.word-word.result 10 5 = omega (arith, low, high) in
     let bits_4_1 : bits c.joined.result 11 8 ≡ bits c.word-word.result 4 1 = omega (arith, low, high) in
     let bit_12 : bits c.joined.result 31 31 ≡ bits c.word-word.result 12 12 = omega (arith, low, high) in
-    rw (bit_11, bits_10_5, bits_4_1, bit_12) (branch_offset-fields c.args.offset (search rules) c.word-word.result c.word-word.ensures)
+    rw (bit_11, bits_10_5, bits_4_1, bit_12)
+    (branch_offset-fields c.args.offset (search rules) c.word-word.result c.word-word.ensures)

@@ -10,7 +10,8 @@ unfolding table_meaning entries_meaning
 returns-in_default-clause-read c =
     let known = sym c.has_other_name.ensures ∙ c.if-has_other_name.false in
     let missing = sym (rw c.in_default.is at c.get.ensures) in
-    λ memory. ap Ok (rw c.unwrap.ensures at c.new-in_default.ensures.arrivals ∙ c.new.ensures.items) ∙ sym (rw (known, missing))
+    λ memory. ap Ok (rw c.unwrap.ensures at c.new-in_default.ensures.arrivals ∙ c.new.ensures.items)
+    ∙ sym (rw (known, missing))
 
 pub returns-in-Some-as_array-clause-read : goal.returns-in-Some-as_array-clause-read
 unfolding table_meaning

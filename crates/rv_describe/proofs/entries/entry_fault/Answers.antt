@@ -8,14 +8,30 @@ returns-then-has_unknown_fields c = simp (list_any-map, sym c.has_unknown_fields
 
 pub returns-in-Some : goal.returns-in-Some
 returns-in-Some c =
-    simp (list_any-map, sym c.has_unknown_fields.ensures ∙ c.if-has_unknown_fields.false, sym c.first_with.ensures ∙ c.in-Some.is)
+    simp (
+      list_any-map,
+      sym c.has_unknown_fields.ensures ∙ c.if-has_unknown_fields.false,
+      sym c.first_with.ensures ∙ c.in-Some.is,
+    )
 
 pub returns-in-Some-first_with : goal.returns-in-Some-first_with
 returns-in-Some-first_with c =
     let first = rw c.foremost.ensures at (sym c.first_with-2.ensures ∙ c.in-Some-first_with.is) in
-    simp (list_any-map, take-map, sym c.has_unknown_fields.ensures ∙ c.if-has_unknown_fields.false, sym c.first_with.ensures ∙ c.in_default.is, first)
+    simp (
+      list_any-map,
+      take-map,
+      sym c.has_unknown_fields.ensures ∙ c.if-has_unknown_fields.false,
+      sym c.first_with.ensures ∙ c.in_default.is,
+      first,
+    )
 
 pub returns : goal.returns
 returns c =
     let none = rw c.foremost.ensures at (sym c.first_with-2.ensures ∙ c.in_default-first_with.is) in
-    simp (list_any-map, take-map, sym c.has_unknown_fields.ensures ∙ c.if-has_unknown_fields.false, sym c.first_with.ensures ∙ c.in_default.is, none)
+    simp (
+      list_any-map,
+      take-map,
+      sym c.has_unknown_fields.ensures ∙ c.if-has_unknown_fields.false,
+      sym c.first_with.ensures ∙ c.in_default.is,
+      none,
+    )

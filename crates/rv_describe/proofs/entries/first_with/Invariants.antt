@@ -5,4 +5,5 @@ use Rattle.rv_describe.proofs.entries.first_with.Given as goal
 
 -- no entry so far has the fault
 abbrev pub invariant-loop-index : goal.invariant-loop-index
-invariant-loop-index l = first_with l.fault 1 (map view l.entries) ≡ first_with l.fault (l.index + 1) (map view (drop l.index l.entries))
+invariant-loop-index l = first_with l.fault 1 (map view l.entries)
+    ≡ first_with l.fault (l.index + 1) (map view (drop l.index l.entries))

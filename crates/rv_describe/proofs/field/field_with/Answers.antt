@@ -13,5 +13,6 @@ returns-clause-read c =
     let cycle = sym (rw c.field_fault.ensures at c.is_fault.ensures) ∙ c.if-is_fault.false in
     let line = sym (rw c.field_fault-2.ensures at c.is_fault-2.ensures) ∙ c.if-is_fault-2.false in
     let level = sym (rw c.field_fault-3.ensures at c.is_fault-3.ensures) ∙ c.if-is_fault-3.false in
-    λ read. sym (no_field (option_and_then as_integer (get (codes "cycle") entry)) (option_and_then as_str (get (codes "line") entry))
+    λ read. sym (no_field (option_and_then as_integer (get (codes "cycle") entry))
+    (option_and_then as_str (get (codes "line") entry))
     (option_map_or as_integer (get (codes "level") entry) (Some (pos 1))) c.args.fault cycle line level) ∙ read

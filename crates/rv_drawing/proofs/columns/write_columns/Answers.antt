@@ -11,7 +11,8 @@ loop-column-init g c = says_nothing _
 
 pub loop-column-preserved : goal.loop-column-preserved
 loop-column-preserved g c =
-    says_below (column_text c.args.shown c.args.window) c.loop-column.column c.loop-column.invariant c.write_column.ensures
+    says_below (column_text c.args.shown c.args.window) c.loop-column.column c.loop-column.invariant
+    c.write_column.ensures
 
 pub returns : goal.returns
 unfolding texts_below columns

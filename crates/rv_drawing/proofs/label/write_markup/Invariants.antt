@@ -6,4 +6,5 @@ use Rattle.rv_drawing.proofs.label.write_markup.Given as goal
 
 -- what comes before is written
 abbrev pub invariant-loop-byte : goal.invariant-loop-byte
-invariant-loop-byte g l = Says g.W.Write.contents l.initial.out l.out (flat_map markup_byte (take l.byte-index l.statement))
+invariant-loop-byte g l =
+    Says g.W.Write.contents l.initial.out l.out (flat_map markup_byte (take l.byte-index l.statement))

@@ -6,4 +6,6 @@ use Rattle.rv_drawing.proofs.marks.write_interrupts.Given as goal
 
 -- the interrupts so far are written
 abbrev pub invariant-loop-cycle : goal.invariant-loop-cycle
-invariant-loop-cycle g l = Says g.W.Write.contents l.initial.out l.out (flat_map (interrupt_in l.window l.rows) (take l.cycle-index l.interrupts))
+invariant-loop-cycle g l =
+    Says g.W.Write.contents l.initial.out l.out
+    (flat_map (interrupt_in l.window l.rows) (take l.cycle-index l.interrupts))

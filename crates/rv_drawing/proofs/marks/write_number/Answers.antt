@@ -11,4 +11,5 @@ returns-then-cycle-eq0 g c =
     let x = c.digits-x.ensures ∙ ap decimal c.column_x.ensures in
     let cycle = c.digits-cycle.ensures ∙ ap decimal c.from.ensures in
     let mark = number_mark (decimal (column_x c.args.column)) (decimal (c.args.window.first + c.args.column)) in
-    says_same ((λ i. number_mark (x i) (cycle i)) ∙ (λ i. if sym c.if-cycle-eq0.true i == 0 then mark else [])) c.put_all.ensures
+    says_same ((λ i. number_mark (x i) (cycle i))
+    ∙ (λ i. if sym c.if-cycle-eq0.true i == 0 then mark else [])) c.put_all.ensures

@@ -10,4 +10,5 @@ returns-in-Some g c =
     let before = c.args.before.now in
     let after = c.args.after.now in
     let count = c.digits-count.ensures ∙ ap decimal c.from.ensures in
-    says_same ((λ i. over_sentence before (count i) (append-nil after i)) ∙ (λ i. over_text before after (c.in-Some.ensures i))) c.put_all.ensures
+    says_same ((λ i. over_sentence before (count i) (append-nil after i))
+    ∙ (λ i. over_text before after (c.in-Some.ensures i))) c.put_all.ensures

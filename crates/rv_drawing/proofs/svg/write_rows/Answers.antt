@@ -14,8 +14,10 @@ loop-row-preserved g c =
     let window = c.args.window in
     let loop = c.loop-row in
     let line = placed_row listing window c.args.rows.now c.args.stalls.now c.args.marks.now loop.place in
-    let more = svg_rows-more listing window c.args.rows.now c.args.stalls.now c.args.marks.now c.args.rows.now loop.row-index c.row-item.result (omega arith) loop.place loop.invariant.shown in
-    let count = count-more listing window c.args.rows.now c.args.stalls.now c.args.marks.now c.args.rows.now loop.row-index c.row-item.result (omega arith) loop.place loop.invariant.shown in
+    let more = svg_rows-more listing window c.args.rows.now c.args.stalls.now c.args.marks.now c.args.rows.now
+    loop.row-index c.row-item.result (omega arith) loop.place loop.invariant.shown in
+    let count = count-more listing window c.args.rows.now c.args.stalls.now c.args.marks.now c.args.rows.now
+    loop.row-index c.row-item.result (omega arith) loop.place loop.invariant.shown in
     let here = says_same (ap line c.row-item.is) c.write_placed.ensures in
     record {
       written = says_same (sym more) (says_both loop.invariant.written here);

@@ -8,7 +8,8 @@ pub returns : goal.returns
 unfolding svg_of
 returns g c =
     let rows = c.args.rows.now in
-    let with_marks : List Mark → List ℕ = λ marks. svg_rows c.args.listing.now c.args.window rows c.args.stalls.now marks 0 rows in
+    let with_marks : List Mark →
+    List ℕ = λ marks. svg_rows c.args.listing.now c.args.window rows c.args.stalls.now marks 0 rows in
     let shown = says_same (ap with_marks c.marks_in.ensures) c.write_rows.ensures in
     says_both c.write_begin.ensures
     (says_both c.write_style.ensures

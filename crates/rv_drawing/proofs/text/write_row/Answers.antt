@@ -9,5 +9,6 @@ unfolding row_line
 returns g c =
     let window = c.args.window in
     let row = c.args.row.now in
-    let cells = says_same (λ i. columns window (cell_at window (c.marks_of-marks.ensures i) row) ++ codes "\n") c.write_line.ensures in
+    let cells = says_same (λ i. columns window (cell_at window (c.marks_of-marks.ensures i) row) ++ codes "\n")
+    c.write_line.ensures in
     says_both c.write_pc.ensures (says_both c.write_statement.ensures (says_both c.write_outcome_field.ensures cells))

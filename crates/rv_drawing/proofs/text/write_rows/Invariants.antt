@@ -6,4 +6,6 @@ use Rattle.rv_drawing.proofs.text.write_rows.Given as goal
 
 -- what comes before is written
 abbrev pub invariant-loop-row : goal.invariant-loop-row
-invariant-loop-row g l = Says g.W.Write.contents l.initial.out l.out (flat_map (shown_line l.listing l.window l.marks) (take l.row-index l.rows))
+invariant-loop-row g l =
+    Says g.W.Write.contents l.initial.out l.out
+    (flat_map (shown_line l.listing l.window l.marks) (take l.row-index l.rows))

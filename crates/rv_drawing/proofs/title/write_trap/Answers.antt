@@ -8,4 +8,5 @@ pub returns : goal.returns
 unfolding trap_title
 returns g c =
     let code = c.as_bytes-code.ensures.value ∙ c.format.ensures.text ∙ ap decimal c.code.ensures in
-    says_same (ap (λ (text : List ℕ). codes "<title>trapped, cause " ++ (text ++ codes "</title>\n")) code) c.put_all.ensures
+    says_same (ap (λ (text : List ℕ). codes "<title>trapped, cause " ++ (text ++ codes "</title>\n"))
+    code) c.put_all.ensures

@@ -5,7 +5,13 @@ use Rattle.rv_explain.proofs.cycle_places.cycle_places.Goals as goal
 
 pub places_by-requires-clause-after : goal.places_by-requires-clause-after
 places_by-requires-clause-after c =
-    omega (arith, c.in_flight.ensures.counted, c.in_flight.ensures.few, ap (λ (r : ReorderBuffer). length r.entries) c.reorder_buffer-buffer.ensures)
+    omega (
+      arith,
+      c.in_flight.ensures.counted,
+      c.in_flight.ensures.few,
+      ap (λ (r : ReorderBuffer). length r.entries)
+          c.reorder_buffer-buffer.ensures,
+    )
 
 pub returns : goal.returns
 returns c =

@@ -5,4 +5,5 @@ use Rattle.rv_explain.proofs.explanation.write_cycles.Goals as goal
 
 pub returns : goal.returns
 unfolding cycle_text
-returns g c = says_both c.write_counts.ensures (says_both (says_same (append-nil _) c.put_fields.ensures) c.write_stalls.ensures)
+returns g c = says_both c.write_counts.ensures
+    (says_both (says_same (append-nil _) c.put_fields.ensures) c.write_stalls.ensures)

@@ -12,6 +12,8 @@ returns g c =
     let cycles = c.args.run.now.progress.cycles in
     let places = c.args.run.now.tally.places in
     says_both c.write_greatest_waits.ensures
-    (says_both (says_same (λ i. greatest_places_text cycles (width i) (c.in_flight-left.ensures.counted i) places) c.write_greatest_places.ensures)
+    (says_both (says_same (λ i. greatest_places_text cycles (width i) (c.in_flight-left.ensures.counted i) places)
+    c.write_greatest_places.ensures)
     (says_both c.write_awaited.ensures (says_both c.write_longest.ensures
-    (says_same (λ i. places_text cycles (width i) (c.in_flight-left.ensures.counted i) places) c.write_places.ensures))))
+    (says_same (λ i. places_text cycles (width i) (c.in_flight-left.ensures.counted i) places)
+    c.write_places.ensures))))

@@ -8,4 +8,5 @@ pub returns : goal.returns
 returns g c =
     let crash = c.lone_crash-crash.ensures ∙ ap (lone_crash c.args.figures c.args.run.now.stop) c.all.ensures in
     says_both c.write_path.ensures
-    (says_same (ap (λ crash. run_text crash c.args.listing.now c.args.hardware.now c.args.run.now) crash) c.write_run.ensures)
+    (says_same (ap (λ crash. run_text crash c.args.listing.now c.args.hardware.now c.args.run.now)
+    crash) c.write_run.ensures)

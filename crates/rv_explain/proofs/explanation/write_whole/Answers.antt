@@ -14,8 +14,10 @@ returns g c =
     let last = c.args.run.now.tally.last_before in
     says_both c.write_ending.ensures
     (says_both (says_same (ap (λ all. stuck_text stop h all last) c.all-exceptions.ensures) c.write_stuck.ensures)
-    (says_both (says_same (ap (λ all. first_way_text listing h all last) c.all-exceptions.ensures) c.write_first_way.ensures)
+    (says_both (says_same (ap (λ all. first_way_text listing h all last) c.all-exceptions.ensures)
+    c.write_first_way.ensures)
     (says_both c.write_exceptions.ensures
-    (says_both (says_same (ap (λ all. whole_end_text listing (crash_of stop all) last) c.all-exceptions.ensures) c.write_whole_end.ensures)
+    (says_both (says_same (ap (λ all. whole_end_text listing (crash_of stop all) last) c.all-exceptions.ensures)
+    c.write_whole_end.ensures)
     (says_both c.write_interrupts.ensures (says_both c.write_untaken_lines.ensures
     (says_both c.write_lead.ensures c.write_costs.ensures)))))))

@@ -13,12 +13,17 @@ run_view-view-requires-clause-ready g c =
     c.drain_end-drain_end.result c.in_flight-in_flight.result c.requires.of_no_cycle
     (ap (λ (h : Hardware). h.registers) (c.hardware.view_is ∙ c.shown-hardware.ensures))
     (c.drain_end-drain_end.ensures ∙ ap drain_end c.shown-hardware.ensures)
-    (c.in_flight-in_flight.ensures.counted ∙ ap (λ (h : Hardware). length h.rob.entries) c.shown-hardware.ensures) c.in_flight-in_flight.ensures.few
+    (c.in_flight-in_flight.ensures.counted ∙ ap (λ (h : Hardware). length h.rob.entries) c.shown-hardware.ensures)
+    c.in_flight-in_flight.ensures.few
 
 pub overflow_add-fetched : goal.overflow_add-fetched
 overflow_add-fetched g c =
     let run = c.run_view-view.ensures in
-    omega (arith, fetched_counted run.viewed.sees run.viewed.kept c.rows.result.now c.rows.ensures c.is_exhausted.ensures.within)
+    omega (
+      arith,
+      fetched_counted run.viewed.sees run.viewed.kept c.rows.result.now c.rows.ensures
+          c.is_exhausted.ensures.within,
+    )
 
 pub returns : goal.returns
 returns g c =
@@ -26,5 +31,7 @@ returns g c =
     let ends = ended_by run c.in-Ok.stop c.in-Ok.is in
     let within = c.is_exhausted.ensures.within in
     let reached = subst Reachable (c.hardware.view_is ∙ c.shown-hardware.ensures) c.hardware.invariant.reached in
-    tallied_to_the_end run.viewed.sees run.viewed.kept ends run.counted c.requires.of_no_cycle c.rows.result.now c.rows.ensures
-    (places_of_all run.viewed.sees run.viewed.kept ends run.counted within (reached_by reached run.passes within)) reached within
+    tallied_to_the_end run.viewed.sees run.viewed.kept ends run.counted c.requires.of_no_cycle
+    c.rows.result.now c.rows.ensures
+    (places_of_all run.viewed.sees run.viewed.kept ends run.counted within (reached_by reached run.passes within))
+    reached within

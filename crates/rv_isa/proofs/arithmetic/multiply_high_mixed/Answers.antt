@@ -15,10 +15,12 @@ product_fits a b fits below =
 
 pub overflow_mul-product : goal.overflow_mul-product
 overflow_mul-product c =
-    let is = product _ _ _ _ c.ranges.a (record { sfits = c.from.type_inv }) (record { sfits = c.from-2.type_inv }) c.from.ensures c.from-2.ensures in
+    let is = product _ _ _ _ c.ranges.a (record { sfits = c.from.type_inv }) (record { sfits = c.from-2.type_inv })
+    c.from.ensures c.from-2.ensures in
     rw is (product_fits _ _ c.ranges.a c.ranges.b.fits)
 
 pub returns : goal.returns
 returns c =
-    let is = product _ _ _ _ c.ranges.a (record { sfits = c.from.type_inv }) (record { sfits = c.from-2.type_inv }) c.from.ensures c.from-2.ensures in
+    let is = product _ _ _ _ c.ranges.a (record { sfits = c.from.type_inv }) (record { sfits = c.from-2.type_inv })
+    c.from.ensures c.from-2.ensures in
     c.upper_half.ensures ∙ ap upper_word (rw is (to_z-of_z w64 _ (product_fits _ _ c.ranges.a c.ranges.b.fits)))

@@ -13,7 +13,8 @@ loop-block-preserved c =
     let here = c.loop-block.invariant.2 in (
       grind (arith, common_steps),
       grind (arith, common_steps, drop-drop, drop_min, next, c.split_at.ensures.back),
-      let count : take c.min.result c.loop-block.rest.now ≡ take BLOCK c.loop-block.rest.now = grind (arith, c.min.ensures, take_min BLOCK c.loop-block.rest.now) in
+      let count : take c.min.result c.loop-block.rest.now ≡ take BLOCK c.loop-block.rest.now =
+          grind (arith, c.min.ensures, take_min BLOCK c.loop-block.rest.now) in
           rw (c.lines_after-lines.ensures, c.split_at.ensures.front, next)
           (fold-more no_lines c.loop-block.lines c.args.items.now (take c.min.result c.loop-block.rest.now)
           (c.loop-block.block * BLOCK) BLOCK (count ∙ ap (take BLOCK) c.loop-block.invariant.1) here),

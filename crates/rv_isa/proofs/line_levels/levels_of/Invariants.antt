@@ -10,4 +10,5 @@ invariant-loop-block l =
     (length l.levels ≡ BLOCKS)
     × (l.rest ≡ drop (l.block * BLOCK) l.items)
     × (l.lines ≡ fold line_set no_lines (take (l.block * BLOCK) l.items))
-    × ((k : ℕ) (d : Lines) → k < l.block → slice_index_or l.levels k d ≡ fold line_set no_lines (take (k * BLOCK) l.items))
+    × ((k : ℕ) (d : Lines) → k < l.block → slice_index_or l.levels k d
+    ≡ fold line_set no_lines (take (k * BLOCK) l.items))

@@ -11,4 +11,5 @@ loop-preserved c =
 pub returns : goal.returns
 returns c =
     let over : c.loop.counter ≡ most_machines = search rules in
-    c.is_some.ensures ∙ another _ c.cut_at_separator-2.result _ c.cut_at_separator-2.ensures (omega (arith, c.loop.invariant, over))
+    c.is_some.ensures ∙ another _ c.cut_at_separator-2.result _ c.cut_at_separator-2.ensures
+    (omega (arith, c.loop.invariant, over))

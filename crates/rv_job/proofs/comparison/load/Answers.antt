@@ -15,7 +15,13 @@ returns-else-len-values-clause-refused c =
     let unfit : Fits c.args.description c.in_ok-image.image → ⊥ = λ fits. elim c.else-len-values.branch [
       | else-len-values-via-then-len-values+else-image-eq0 w ↦ w.if-image-eq0.false fits.1
       | else-len-values-via-else-len-values w ↦
-          omega (arith, fits.0, w.if-len-values.false, c.len.ensures, ap (λ (values : Values). values.ram_size) c.values-values.ensures.values)
+          omega (
+            arith,
+            fits.0,
+            w.if-len-values.false,
+            c.len.ensures,
+            ap (λ (values : Values). values.ram_size) c.values-values.ensures.values,
+          )
     ] in
     (refl, (c.in_ok-image.image, loaded, unfit))
 

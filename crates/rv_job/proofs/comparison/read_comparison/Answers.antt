@@ -40,12 +40,14 @@ returns-clause-few c =
 pub returns-in_default-clause-refused : goal.returns-in_default-clause-refused
 returns-in_default-clause-refused c =
     RefusesComparison.descriptions (omega (arith, c.if-text-gt-MOST_BYTES.false))
-    (ltb-false most_machines (separator_count c.args.text.now) (sym c.has_too_many.ensures ∙ c.if-has_too_many.false)) RefusesDescriptions.memory
+    (ltb-false most_machines (separator_count c.args.text.now) (sym c.has_too_many.ensures ∙ c.if-has_too_many.false))
+    RefusesDescriptions.memory
 
 pub returns-clause-comparison : goal.returns-clause-comparison
 returns-clause-comparison c = record {
   length = omega (arith, c.if-text-gt-MOST_BYTES.false);
-  number = ltb-false most_machines (separator_count c.args.text.now) (sym c.has_too_many.ensures ∙ c.if-has_too_many.false);
+  number = ltb-false most_machines (separator_count c.args.text.now) (sym c.has_too_many.ensures
+      ∙ c.if-has_too_many.false);
   machines = c.in_ok-descriptions.descriptions.items;
   program = c.in_ok-descriptions.program.now;
   compares = c.in_ok-descriptions.ensures.machines;

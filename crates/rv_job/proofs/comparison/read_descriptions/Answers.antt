@@ -7,7 +7,8 @@ use Rattle.rv_job.proofs.comparison.read_descriptions.Goals as goal
 
 pub loop-halves-init : goal.loop-halves-init
 loop-halves-init c =
-    subst (λ machines. IsAfter c.args.text.now machines c.args.text.now) (sym c.new-descriptions.ensures.items) IsAfter.nothing
+    subst (λ machines. IsAfter c.args.text.now machines c.args.text.now)
+    (sym c.new-descriptions.ensures.items) IsAfter.nothing
 
 pub returns-in_err-description-clause-refused : goal.returns-in_err-description-clause-refused
 returns-in_err-description-clause-refused c =

@@ -7,7 +7,8 @@ use Rattle.rv_job.proofs.image_text.read_image_text.Goals as goal
 pub returns-in_err-parts-clause-refused : goal.returns-in_err-parts-clause-refused
 returns-in_err-parts-clause-refused c =
     refused_on (RefusesImage c.args.text.now) _ _ c.from_residual.ensures.1
-    (subst (RefusesImage c.args.text.now) (sym c.in_err-parts.ensures.too_long) (too_long c.in_err-parts.ensures.refused))
+    (subst (RefusesImage c.args.text.now) (sym c.in_err-parts.ensures.too_long)
+    (too_long c.in_err-parts.ensures.refused))
 
 pub returns-in_err-description-clause-refused : goal.returns-in_err-description-clause-refused
 returns-in_err-description-clause-refused c =
@@ -17,8 +18,10 @@ returns-in_err-description-clause-refused c =
 pub returns-in-Err-clause-refused : goal.returns-in-Err-clause-refused
 returns-in-Err-clause-refused c =
     let parts_are = c.in_ok-parts.ensures.parts in
-    let described : Describes c.args.text.now c.in_ok-description.description = rw (← parts_are) c.in_ok-description.ensures.machine in
-    assembly c.in_ok-parts.ensures.length described (rw (← parts_are, ← c.values.ensures.values) c.in-Err.ensures.refused)
+    let described : Describes c.args.text.now c.in_ok-description.description =
+    rw (← parts_are) c.in_ok-description.ensures.machine in
+    assembly c.in_ok-parts.ensures.length described
+    (rw (← parts_are, ← c.values.ensures.values) c.in-Err.ensures.refused)
 
 pub returns-in-Ok-clause-image : goal.returns-in-Ok-clause-image
 returns-in-Ok-clause-image c =

@@ -6,7 +6,8 @@ use Rattle.rv_job.proofs.job_text.read_job.Goals.{In-Ok}
 pub returns-in-Err-clause-refused : goal.returns-in-Err-clause-refused
 returns-in-Err-clause-refused c =
     let read = c.in_ok-read.ensures in
-    assembly read.length read.machine read.arrivals (rw (← read.assembly, ← c.values-values.ensures.values) c.in-Err.ensures.refused)
+    assembly read.length read.machine read.arrivals
+    (rw (← read.assembly, ← c.values-values.ensures.values) c.in-Err.ensures.refused)
 
 assembled : (c : In-Ok) → Assembles c.args.text.now c.in_ok-read.read.description c.in-Ok.image
 assembled c = rw (← c.in_ok-read.ensures.assembly, ← c.values-values.ensures.values) c.in-Ok.ensures.image
@@ -14,9 +15,11 @@ assembled c = rw (← c.in_ok-read.ensures.assembly, ← c.values-values.ensures
 pub returns-in-Ok-clause-job : goal.returns-in-Ok-clause-job
 returns-in-Ok-clause-job c =
     let read = c.in_ok-read.ensures in
-    c.job_of.ensures.job c.args.text.now read.length read.machine read.arrivals (assembled (goal.at.returns-in-Ok-clause-job c).In-Ok)
+    c.job_of.ensures.job c.args.text.now read.length read.machine read.arrivals
+    (assembled (goal.at.returns-in-Ok-clause-job c).In-Ok)
 
 pub returns-in-Ok-clause-refused : goal.returns-in-Ok-clause-refused
 returns-in-Ok-clause-refused c =
     let read = c.in_ok-read.ensures in
-    c.job_of.ensures.refused c.args.text.now read.length read.machine read.arrivals (assembled (goal.at.returns-in-Ok-clause-refused c).In-Ok)
+    c.job_of.ensures.refused c.args.text.now read.length read.machine read.arrivals
+    (assembled (goal.at.returns-in-Ok-clause-refused c).In-Ok)

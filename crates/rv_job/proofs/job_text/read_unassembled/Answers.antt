@@ -17,5 +17,6 @@ returns-in_err-description-clause-refused c =
 pub returns-in-Err-clause-refused : goal.returns-in-Err-clause-refused
 returns-in-Err-clause-refused c =
     let parts_are = c.in_ok-parts.ensures.parts in
-    let described : Describes c.args.text.now c.in_ok-description.description = rw (← parts_are) c.in_ok-description.ensures.machine in
+    let described : Describes c.args.text.now c.in_ok-description.description =
+    rw (← parts_are) c.in_ok-description.ensures.machine in
     arrivals c.in_ok-parts.ensures.length described (rw (← parts_are) c.in-Err.ensures.refused)

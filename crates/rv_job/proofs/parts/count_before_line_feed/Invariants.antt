@@ -5,4 +5,5 @@ use Rattle.rv_job.proofs.parts.count_before_line_feed.Given as goal
 
 -- no line feed yet
 abbrev pub invariant-loop-count : goal.invariant-loop-count
-invariant-loop-count l = position_or_len is_line_feed l.text ≡ l.count + position_or_len is_line_feed (drop l.count l.text)
+invariant-loop-count l = position_or_len is_line_feed l.text ≡ l.count
+    + position_or_len is_line_feed (drop l.count l.text)

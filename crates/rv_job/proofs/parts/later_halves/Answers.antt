@@ -10,7 +10,8 @@ loop-place-preserved c =
     let next = next_place c.args.text.now c.loop-place.place c.loop-place-test.true c.loop-place.invariant in
     elim c.if-text-place-eq10.branch [
       | then-text-place-eq10+in_default w ↦
-          let none = sym (ap after_separator w.split_at.ensures.back) ∙ sym w.after_separator.ensures ∙ ap option_copied w.in_default.is in
+          let none = sym (ap after_separator w.split_at.ensures.back) ∙ sym w.after_separator.ensures
+          ∙ ap option_copied w.in_default.is in
           next (no_separator_at_front _ _ none)
       | else-text-place-eq10 w ↦ next (rw (ne_eqb _ 10 w.if-text-place-eq10.false) refl)
     ]

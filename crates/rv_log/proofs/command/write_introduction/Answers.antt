@@ -9,4 +9,5 @@ unfolding introduction_text
 returns g c =
     let address = says_same (c.as_slice.ensures ∙ c.hexadecimal-address.ensures) c.put.ensures in
     says_after_number (codes "I\t") _ (codes "\t") c.write_numbered.ensures
-    (says_after_number [] _ (codes "\t0\nL\t") c.write_numbered-2.ensures (says_after_number [] _ (codes "\t0\t") c.write_numbered-3.ensures (says_both address c.put-2.ensures)))
+    (says_after_number [] _ (codes "\t0\nL\t") c.write_numbered-2.ensures
+    (says_after_number [] _ (codes "\t0\t") c.write_numbered-3.ensures (says_both address c.put-2.ensures)))

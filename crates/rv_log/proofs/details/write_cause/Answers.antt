@@ -9,4 +9,5 @@ pub returns : goal.returns
 unfolding cause_text
 returns g c =
     let number : c.from.result ≡ code_of c.args.cause = search rules in
-    says_same (ap (λ text. codes "trapped, cause " ++ text) (append-nil (decimal c.from.result) ∙ ap decimal number)) c.write_numbered.ensures
+    says_same (ap (λ text. codes "trapped, cause " ++ text) (append-nil (decimal c.from.result) ∙ ap decimal number))
+    c.write_numbered.ensures

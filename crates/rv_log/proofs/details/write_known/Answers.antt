@@ -9,7 +9,8 @@ unfolding correction_text
 returns-in-None g c =
     let word = word_text c.args.predicted in
     let whole = ap (λ (end : List ℕ). codes ", predicted " ++ end) (sym (append-nil word)) in
-    says_same (whole ∙ ap (λ next. codes ", predicted " ++ (word ++ correction_text next)) (sym c.in-None.is)) c.write_prediction_alone.ensures
+    says_same (whole ∙ ap (λ next. codes ", predicted " ++ (word ++ correction_text next)) (sym c.in-None.is))
+    c.write_prediction_alone.ensures
 
 pub returns-in-Some : goal.returns-in-Some
 returns-in-Some g c =

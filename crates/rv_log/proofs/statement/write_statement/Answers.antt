@@ -11,4 +11,5 @@ returns g c =
     let front = c.split_at.ensures.front ∙ ap (λ n. take n text) count in
     let rest = c.split_at.ensures.back ∙ ap (λ n. drop n text) count in
     let shown = ap plain_text c.statement_of-statement.ensures.statement in
-    says_same ((λ i. front i ++ plain_text (rest i)) ∙ plain-front text ∙ shown) (says_both c.put.ensures c.put_plain.ensures)
+    says_same ((λ i. front i ++ plain_text (rest i)) ∙ plain-front text ∙ shown)
+    (says_both c.put.ensures c.put_plain.ensures)

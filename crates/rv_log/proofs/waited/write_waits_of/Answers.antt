@@ -23,7 +23,9 @@ returns g c =
     (waits-after c.write_next-words-2.result.now issue (bus ∷ head ∷ []) c.write_next-words-3.ensures.next
     (waits-after c.write_next-words-3.result.now bus (head ∷ []) c.write_next-words-4.ensures.next
     (waits-last c.write_next-words-4.result.now head)))) in
-    let issue_is = c.issue_wait-issue.ensures ∙ ap (λ (w : Wait). wait w.until (or_left left (issued_in row)) (issue_awaited first row)) c.result_wait-operand.ensures in
+    let issue_is = c.issue_wait-issue.ensures
+    ∙ ap (λ (w : Wait). wait w.until (or_left left (issued_in row)) (issue_awaited first row))
+    c.result_wait-operand.ensures in
     let waits : dispatch ∷ operand ∷ issue ∷ bus ∷ head ∷ [] ≡ waits_of first left row =
     λ i. c.dispatch_wait-dispatch.ensures i ∷ c.result_wait-operand.ensures i ∷ issue_is i ∷ c.bus_wait-bus.ensures i
     ∷ c.head_wait-head.ensures i ∷ [] in

@@ -3,10 +3,12 @@ use Rattle.rv_log.proofs.written.write_log.Goals as goal
 
 pub returns-then-logged-clause-written : goal.returns-then-logged-clause-written
 returns-then-logged-clause-written g c =
-    let (text, is, wrote) = c.run_logged-logged.ensures in (c.run_logged-logged.result.stop, text, is, rw c.if-logged.true at wrote)
+    let (text, is, wrote) = c.run_logged-logged.ensures in
+    (c.run_logged-logged.result.stop, text, is, rw c.if-logged.true at wrote)
 
 pub returns-else-logged-clause-written : goal.returns-else-logged-clause-written
-returns-else-logged-clause-written g c = let (text, is, wrote) = c.run_logged-logged.ensures in (text, is, rw c.if-logged.false at wrote)
+returns-else-logged-clause-written g c = let (text, is, wrote) = c.run_logged-logged.ensures in
+    (text, is, rw c.if-logged.false at wrote)
 
 -- whatever was written
 pub returns-in_default-clause-one_log : goal.returns-in_default-clause-one_log

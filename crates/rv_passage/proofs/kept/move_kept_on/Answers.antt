@@ -10,4 +10,5 @@ returns c = λ number.
     let parts = c.split_at_mut-kept.ensures in
     let added = numbered_from number (drop c.move_on.result now) in
     ap (λ ps. moved_on c.args.cycle number [] ps now) (sym parts.back) ∙ c.move_on.ensures number
-    ∙ ap (λ ps. ps ++ added) (sym (drop-joined c.args.dropped c.split_at_mut-kept.result.0.now c.move_on.new.rows parts.front_len))
+    ∙ ap (λ ps. ps ++ added)
+    (sym (drop-joined c.args.dropped c.split_at_mut-kept.result.0.now c.move_on.new.rows parts.front_len))

@@ -7,5 +7,6 @@ use Rattle.rv_passage.proofs.kept.retire_kept.Goals as goal
 pub returns : goal.returns
 returns c =
     let parts = c.split_at_mut-kept.ensures in
-    drop-joined c.args.dropped c.split_at_mut-kept.result.0.now c.retire_oldest.new.rows parts.front_len ∙ c.retire_oldest.ensures
+    drop-joined c.args.dropped c.split_at_mut-kept.result.0.now c.retire_oldest.new.rows parts.front_len
+    ∙ c.retire_oldest.ensures
     ∙ ap (with_oldest (retired_by c.args.row.now c.args.order c.args.next)) parts.back

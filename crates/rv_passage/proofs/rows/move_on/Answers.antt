@@ -22,10 +22,13 @@ loop-place-preserved c =
         still = λ told.
             let place = c.loop-place.place in
             let left = drop c.loop-place.next now in
-            let was = (still-here c.args.cycle c.loop-place.rows left place p there (c.loop-place.invariant.still told)).1 in
+            let was = (still-here c.args.cycle c.loop-place.rows left place p there
+            (c.loop-place.invariant.still told)).1 in
             let rows = ap (drop (place + 1)) (c.move_at-next.ensures.moved p there)
-            ∙ drop-set-lt (place + 1) c.loop-place.rows place (moved c.args.cycle (take place c.loop-place.rows) left p) (omega arith) in
-            subst (AreStill c.args.cycle (drop (place + 1) c.move_at-next.new.rows)) (sym (c.move_at-next.ensures.left p there))
+            ∙ drop-set-lt (place + 1) c.loop-place.rows place
+            (moved c.args.cycle (take place c.loop-place.rows) left p) (omega arith) in
+            subst (AreStill c.args.cycle (drop (place + 1) c.move_at-next.new.rows))
+            (sym (c.move_at-next.ensures.left p there))
             (subst (λ ps. AreStill c.args.cycle ps (left_after c.args.cycle left p)) (sym rows) was);
       }
       | inr (past, none) ↦ absurd (omega (arith, within, past))

@@ -13,4 +13,5 @@ returns-in-Some c =
 
 pub returns-in_default : goal.returns-in_default
 returns-in_default c =
-    sym (with_oldest-none (trapped_by c.args.cause c.args.cycle) c.args.rows.now (sym c.oldest_in_flight.ensures ∙ c.in_default.is))
+    sym (with_oldest-none (trapped_by c.args.cause c.args.cycle) c.args.rows.now
+    (sym c.oldest_in_flight.ensures ∙ c.in_default.is))

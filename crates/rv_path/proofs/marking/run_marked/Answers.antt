@@ -14,7 +14,8 @@ run_view-view-requires-clause-ready g c =
     let rows = c.rows-rows.result.now in
     let rows_are : rows ≡ (table_at (g.S.Simulated.hardware c.args.pipeline.now)).rows = search rules in
     let few : length rows ≤ 576 = omega (arith, ap length c.rows-rows.ensures, c.in_ok-following.ensures.table.few) in
-    let path = pathing_nothing (g.S.Simulated.hardware c.args.pipeline.now) c.in_ok-path.path rows rows_are begun.ways begun.holds begun.before begun.window begun.passes in
+    let path = pathing_nothing (g.S.Simulated.hardware c.args.pipeline.now) c.in_ok-path.path rows rows_are begun.ways
+    begun.holds begun.before begun.window begun.passes in
     (marking_nothing _ _ _ rows rows_are few path refl numbered.numbers numbered.fetched, refl)
 
 pub returns-in_err-following-clause-run : goal.returns-in_err-following-clause-run
@@ -39,7 +40,8 @@ returns-clause-marked g c =
     let path_is = c.as_slice.ensures.value ∙ c.in_ok-path-2.ensures in
     if_ok_by c.marks_of.result (λ marks is.
     marked_run c.run_view-view.result.view c.as_slice.result.now marks.items run.viewed.sees.0 run.viewed.sees.1
-    ended c.limit_of.ensures.exact c.limit_of.ensures.beyond c.is_exhausted.ensures.within path_is is) c.marks_of.ensures
+    ended c.limit_of.ensures.exact c.limit_of.ensures.beyond c.is_exhausted.ensures.within path_is
+    is) c.marks_of.ensures
 
 pub returns-clause-run : goal.returns-clause-run
 returns-clause-run g c = on_err c.marks_of.result (has_run c.run_view-view.ensures.passes)

@@ -33,11 +33,16 @@ watch-ended-requires-clause-ready g c = (
 
 pub returns-clause-followed : goal.returns-clause-followed
 returns-clause-followed g c =
-    let old = guided (g.S.Simulated.hardware c.args.pipeline.now) ((goal.Predictor-dyn g c.args.predictor.now).known c.args.predictor.now.1) in
-    let new = guided (g.S.Simulated.hardware c.watch-ended.new.self) ((goal.Predictor-dyn g (c.args.predictor.now.0, c.watch-ended.new.predictor)).known c.watch-ended.new.predictor) in
+    let old = guided (g.S.Simulated.hardware c.args.pipeline.now)
+    ((goal.Predictor-dyn g c.args.predictor.now).known c.args.predictor.now.1) in
+    let new = guided (g.S.Simulated.hardware c.watch-ended.new.self)
+    ((goal.Predictor-dyn g (c.args.predictor.now.0, c.watch-ended.new.predictor)).known
+    c.watch-ended.new.predictor) in
     let run = c.watch-ended.ensures in
-    let begun = recording_nothing c.args.arrivals.now old (passages_of c.in_ok-table.table) c.new.result.items c.in_ok-table.ensures.passages c.in_ok-table.ensures.few c.new.ensures.items in
-    subst (λ (r : Recording). IsRecorded c.args.arrivals.now 0 c.args.limit old new r.stop (held_by r)) (sym c.recorded.ensures)
+    let begun = recording_nothing c.args.arrivals.now old (passages_of c.in_ok-table.table) c.new.result.items
+    c.in_ok-table.ensures.passages c.in_ok-table.ensures.few c.new.ensures.items in
+    subst (λ (r : Recording). IsRecorded c.args.arrivals.now 0 c.args.limit old new r.stop (held_by r))
+    (sym c.recorded.ensures)
     (recorded_to_the_end c.cycles_done-first.result c.watch-ended.result.progress.cycles
     (record { passes = run.passes; stops = stops_by run c.in_ok-stop.stop c.in_ok-stop.was }) (run.seen None begun)
     c.cycles_done-first.ensures.number (ap (λ (p : Progress). p.cycles) run.counted))

@@ -18,9 +18,13 @@ returns-in_err-steps-clause-run g c =
 pub returns-then-is_limit-clause-recording : goal.returns-then-is_limit-clause-recording
 returns-then-is_limit-clause-recording g c =
     let (before, run) = c.run_on-stop.ensures in
-    let old = guided (g.S.Simulated.hardware c.args.pipeline.now) ((goal.Predictor-dyn g c.args.predictor.now).known c.args.predictor.now.1) in
-    let start = guided (g.S.Simulated.hardware c.run_on-stop.new.pipeline) ((goal.Predictor-dyn g (c.args.predictor.now.0, c.run_on-stop.new.predictor)).known c.run_on-stop.new.predictor) in
-    let limit : c.run_on-stop.result ≡ Limit = is_by_limit c.run_on-stop.result (sym c.is_limit.ensures ∙ c.if-is_limit.true) in
+    let old = guided (g.S.Simulated.hardware c.args.pipeline.now)
+    ((goal.Predictor-dyn g c.args.predictor.now).known c.args.predictor.now.1) in
+    let start = guided (g.S.Simulated.hardware c.run_on-stop.new.pipeline)
+    ((goal.Predictor-dyn g (c.args.predictor.now.0, c.run_on-stop.new.predictor)).known
+    c.run_on-stop.new.predictor) in
+    let limit : c.run_on-stop.result ≡ Limit =
+    is_by_limit c.run_on-stop.result (sym c.is_limit.ensures ∙ c.if-is_limit.true) in
     if_ok_by c.record_run.result
     (λ r rest. recorded_later (subst (IsEndedRun c.args.arrivals.now c.args.from old before start) limit run) rest)
     c.record_run.ensures.followed
@@ -28,8 +32,11 @@ returns-then-is_limit-clause-recording g c =
 pub returns-else-is_limit-clause-recording : goal.returns-else-is_limit-clause-recording
 returns-else-is_limit-clause-recording g c =
     let (before, run) = c.run_on-stop.ensures in
-    let old = guided (g.S.Simulated.hardware c.args.pipeline.now) ((goal.Predictor-dyn g c.args.predictor.now).known c.args.predictor.now.1) in
-    let start = guided (g.S.Simulated.hardware c.run_on-stop.new.pipeline) ((goal.Predictor-dyn g (c.args.predictor.now.0, c.run_on-stop.new.predictor)).known c.run_on-stop.new.predictor) in
+    let old = guided (g.S.Simulated.hardware c.args.pipeline.now)
+    ((goal.Predictor-dyn g c.args.predictor.now).known c.args.predictor.now.1) in
+    let start = guided (g.S.Simulated.hardware c.run_on-stop.new.pipeline)
+    ((goal.Predictor-dyn g (c.args.predictor.now.0, c.run_on-stop.new.predictor)).known
+    c.run_on-stop.new.predictor) in
     let other = is_not_by_limit c.run_on-stop.result (sym c.is_limit.ensures ∙ c.if-is_limit.false) in
     if_ok_by c.nothing_shown.result
     (λ r is. subst

@@ -7,4 +7,5 @@ watch-ended-requires-clause-ready g c = (None, tt)
 
 pub returns : goal.returns
 returns g c =
-    let run = c.watch-ended.ensures in (run.moments, record { passes = run.passes; stops = stops_by run c.in-Ok.stop c.in-Ok.is })
+    let run = c.watch-ended.ensures in
+    (run.moments, record { passes = run.passes; stops = stops_by run c.in-Ok.stop c.in-Ok.is })

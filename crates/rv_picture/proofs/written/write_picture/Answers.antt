@@ -8,10 +8,13 @@ write_recording-requires g c = omega (arith, window_end c.in-Ok.ensures.recordin
 
 -- whatever was written
 pub returns-in_default-clause-one_picture : goal.returns-in_default-clause-one_picture
-returns-in_default-clause-one_picture g c = one_picture c.args.arrivals.now c.args.view (option_copied c.args.marks) c.args.listing.now
+returns-in_default-clause-one_picture g c =
+    one_picture c.args.arrivals.now c.args.view (option_copied c.args.marks) c.args.listing.now
 
 pub returns-in-Ok-write_recording-clause-one_picture : goal.returns-in-Ok-write_recording-clause-one_picture
-returns-in-Ok-write_recording-clause-one_picture g c = one_picture c.args.arrivals.now c.args.view (option_copied c.args.marks) c.args.listing.now
+returns-in-Ok-write_recording-clause-one_picture g c =
+    one_picture c.args.arrivals.now c.args.view (option_copied c.args.marks) c.args.listing.now
 
 pub returns-clause-one_picture : goal.returns-clause-one_picture
-returns-clause-one_picture g c = one_picture c.args.arrivals.now c.args.view (option_copied c.args.marks) c.args.listing.now
+returns-clause-one_picture g c =
+    one_picture c.args.arrivals.now c.args.view (option_copied c.args.marks) c.args.listing.now

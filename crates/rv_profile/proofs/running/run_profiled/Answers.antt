@@ -9,7 +9,10 @@ run_view-view-requires-clause-ready g c = profiling_nothing c.args.arrivals.now 
 pub finish-requires : goal.finish-requires
 finish-requires g c =
     let run = c.run_view-view.ensures in
-    record { countable = can_finish run.viewed.sees run.viewed.kept c.rows.result.now c.rows.ensures c.is_exhausted.ensures.within }
+    record {
+      countable = can_finish run.viewed.sees run.viewed.kept c.rows.result.now c.rows.ensures
+          c.is_exhausted.ensures.within;
+    }
 
 pub returns-in_err-following-clause-run : goal.returns-in_err-following-clause-run
 returns-in_err-following-clause-run g c = on_err _ (has_not_run c.args.arrivals.now _)

@@ -8,9 +8,11 @@ use Rattle.rv_program.proofs.compare.compare.Goals as goal
 
 pub returns-in_err-write_table-clause-table : goal.returns-in_err-write_table-clause-table
 returns-in_err-write_table-clause-table g c =
-    answered_on (λ _ text. IsComparisonTable c.args.comparison.now c.args.options.now text) _ _ _ _ c.from_residual.ensures.1 (
+    answered_on (λ _ text. IsComparisonTable c.args.comparison.now c.args.options.now text) _ _ _ _
+    c.from_residual.ensures.1 (
       tt,
-      table_of c.args.options.now.shown (map (λ name. name.items) c.as_slice-names.result.now) c.as_slice-rows.result.now,
+      table_of c.args.options.now.shown (map (λ name. name.items) c.as_slice-names.result.now)
+          c.as_slice-rows.result.now,
       table_made c.args.comparison.now c.args.options.now c.as_slice-jobs.result.now c.in-Ok.runs.items
           c.as_slice-rows.result.now c.as_slice-names.result.now c.as_slice-jobs.ensures.value
           c.as_slice-rows.ensures.value c.as_slice-names.ensures.value c.in-Ok.ensures.runs,

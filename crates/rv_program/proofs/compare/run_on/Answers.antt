@@ -8,4 +8,5 @@ use Rattle.rv_program.proofs.compare.run_on.Goals as goal
 pub run_guided-requires-clause-described : goal.run_guided-requires-clause-described
 run_guided-requires-clause-described c =
     let table = (dyn-1-ghosts (own-1, lawful-own-1)).0 in
-    read_made table (table.entry at-1-1) at-1-1 refl _ (λ j y. j.1.known y) _ _ c.in-Ok.predictor.value c.into_dyn_box.ensures.1 ∙ c.in-Ok.ensures
+    read_made table (table.entry at-1-1) at-1-1 refl _ (λ j y. j.1.known y) _ _ c.in-Ok.predictor.value
+    c.into_dyn_box.ensures.1 ∙ c.in-Ok.ensures

@@ -11,7 +11,8 @@ returns-clause-view g c =
     let listed = c.args.listed.now in
     let before = g.W.Write.contents c.args.writer.now in
     let after = g.W.Write.contents c.write_view-written.new.writer in
-    let ended = answered_from (IsViewOf listed _ c.args.view.now) c.write_view-written.result before after c.write_view-written.ensures
+    let ended = answered_from (IsViewOf listed _ c.args.view.now) c.write_view-written.result before after
+    c.write_view-written.ensures
     c.answer.ensures (λ ended text is. view_of listed _ c.args.view.now c.in-Ok.ensures.made is) in
     -- the box is lent
     subst (λ lent. IsAnswer (IsViewOf listed ((goal.Predictor-dyn g lent).known lent.1) c.args.view.now) c.answer.result

@@ -6,7 +6,8 @@ use Rattle.rv_program.proofs.sensitivity.try_each.Goals as goal
 
 pub loop-neighbour-init : goal.loop-neighbour-init
 loop-neighbour-init c =
-    subst (AllZip (IsTried c.args.options.now c.args.job.now) (take 0 c.args.neighbours.now)) (sym c.new-runs.ensures.items) tt
+    subst (AllZip (IsTried c.args.options.now c.args.job.now) (take 0 c.args.neighbours.now))
+    (sym c.new-runs.ensures.items) tt
 
 pub loop-neighbour-preserved : goal.loop-neighbour-preserved
 loop-neighbour-preserved c =
@@ -18,5 +19,6 @@ loop-neighbour-preserved c =
 
 pub returns-clause-runs : goal.returns-clause-runs
 returns-clause-runs c =
-    all_tried c.args.options.now c.args.job.now c.args.neighbours.now c.loop-neighbour.neighbour-index c.loop-neighbour.runs.items
+    all_tried c.args.options.now c.args.job.now c.args.neighbours.now c.loop-neighbour.neighbour-index
+    c.loop-neighbour.runs.items
     (omega arith) c.loop-neighbour.invariant

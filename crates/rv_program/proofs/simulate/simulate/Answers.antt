@@ -8,7 +8,8 @@ use Rattle.rv_program.proofs.Simulated.{run_simulated}
 use Rattle.rv_program.proofs.simulate.simulate.Goals as goal
 
 pub returns-in_err-steps-clause-report : goal.returns-in_err-steps-clause-report
-returns-in_err-steps-clause-report g c = answered_on (IsSimulation c.args.job.now _ c.args.options.now) _ _ _ _ c.from_residual.ensures.1 refl
+returns-in_err-steps-clause-report g c = answered_on (IsSimulation c.args.job.now _ c.args.options.now) _ _ _ _
+    c.from_residual.ensures.1 refl
 
 pub returns-in_err-write_run-clause-report : goal.returns-in_err-write_run-clause-report
 returns-in_err-write_run-clause-report g c =

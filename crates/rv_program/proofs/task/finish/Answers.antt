@@ -12,8 +12,10 @@ use Rattle.rv_program.proofs.task.finish.Goals as goal
 
 pub returns-in_err-write_image_line-in-Check : goal.returns-in_err-write_image_line-in-Check
 returns-in_err-write_image_line-in-Check g c =
-    let predictor = (goal.Predictor-dyn g (c.args.predictor.predictor.vtable, c.args.predictor.predictor.value)).known c.args.predictor.predictor.value in
-    let ended = Ends-by_write (Check c.in-Check.made) predictor done _ _ _ (refl, refl) c.in_err-write_image_line-in-Check.ensures in
+    let predictor = (goal.Predictor-dyn g (c.args.predictor.predictor.vtable, c.args.predictor.predictor.value)).known
+    c.args.predictor.predictor.value in
+    let ended = Ends-by_write (Check c.in-Check.made) predictor done _ _ _ (refl, refl)
+    c.in_err-write_image_line-in-Check.ensures in
     rw (c.in-Check.is, handed_on _ _ c.from_residual.ensures.1) ended
 
 pub returns-in-Run : goal.returns-in-Run
@@ -27,7 +29,8 @@ pub returns-in-Reference : goal.returns-in-Reference
 returns-in-Reference g c =
     rw c.in-Reference.is
     (Ends-after (Reference c.in-Reference.job c.in-Reference.options)
-    ((goal.Predictor-dyn g (c.args.predictor.predictor.vtable, c.args.predictor.predictor.value)).known c.args.predictor.predictor.value)
+    ((goal.Predictor-dyn g (c.args.predictor.predictor.vtable, c.args.predictor.predictor.value)).known
+    c.args.predictor.predictor.value)
     (IsReferenceReport c.in-Reference.job c.in-Reference.options) (λ stop. ended_by stop None) c.reference.result _ _ tt
     (λ stop text is. (stop, is, refl)) c.reference.ensures c.ended-in-Reference.ensures)
 
@@ -42,7 +45,8 @@ pub returns-in-Compare : goal.returns-in-Compare
 returns-in-Compare g c =
     rw c.in-Compare.is
     (Ends-after (Compare c.in-Compare.comparison c.in-Compare.options)
-    ((goal.Predictor-dyn g (c.args.predictor.predictor.vtable, c.args.predictor.predictor.value)).known c.args.predictor.predictor.value)
+    ((goal.Predictor-dyn g (c.args.predictor.predictor.vtable, c.args.predictor.predictor.value)).known
+    c.args.predictor.predictor.value)
     (λ _ text. IsComparisonTable c.in-Compare.comparison c.in-Compare.options text) (λ _. done) c.compare.result _ _ tt
     (λ _ text is. (is, refl)) c.compare.ensures.table c.ended_table.ensures)
 
@@ -50,7 +54,8 @@ pub returns-in-Sensitivity : goal.returns-in-Sensitivity
 returns-in-Sensitivity g c =
     rw c.in-Sensitivity.is
     (Ends-after (Sensitivity c.in-Sensitivity.job c.in-Sensitivity.own c.in-Sensitivity.options)
-    ((goal.Predictor-dyn g (c.args.predictor.predictor.vtable, c.args.predictor.predictor.value)).known c.args.predictor.predictor.value)
+    ((goal.Predictor-dyn g (c.args.predictor.predictor.vtable, c.args.predictor.predictor.value)).known
+    c.args.predictor.predictor.value)
     (λ _ text. IsSensitivityTable c.in-Sensitivity.job c.in-Sensitivity.own.items c.in-Sensitivity.options text)
     (λ _. done) c.sensitivity.result _ _ tt (λ _ text is. (is, refl))
     (rw c.as_slice.ensures.value at c.sensitivity.ensures.table) c.ended_table-in-Sensitivity.ensures)

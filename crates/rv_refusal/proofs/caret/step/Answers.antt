@@ -6,7 +6,8 @@ use Rattle.rv_refusal.proofs.Distance.{distance_none, distance_blank, distance_h
 use Rattle.rv_refusal.proofs.caret.step.Goals as goal
 
 pub returns-in_default-clause-reached : goal.returns-in_default-clause-reached
-returns-in_default-clause-reached c = λ _. distance_none c.args.rest.now c.args.before c.requires c.in_default.ensures.lexeme
+returns-in_default-clause-reached c = λ _. distance_none c.args.rest.now c.args.before c.requires
+    c.in_default.ensures.lexeme
 
 pub returns-in_default-token-clause-further : goal.returns-in_default-token-clause-further
 returns-in_default-token-clause-further c =

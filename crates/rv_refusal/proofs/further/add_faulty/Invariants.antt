@@ -5,4 +5,5 @@ use Rattle.rv_refusal.proofs.further.add_faulty.Given as goal
 
 -- the lines so far are appended
 abbrev pub invariant-loop-line : goal.invariant-loop-line
-invariant-loop-line l = l.out.items ≡ l.initial.out.items ++ flat_map (λ line. place_line l.before line.number line.fault) (take l.line-index l.lines)
+invariant-loop-line l = l.out.items ≡ l.initial.out.items
+    ++ flat_map (λ line. place_line l.before line.number line.fault) (take l.line-index l.lines)

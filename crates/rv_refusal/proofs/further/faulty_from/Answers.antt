@@ -10,13 +10,15 @@ pub loop-rest-preserved : goal.loop-rest-preserved
 loop-rest-preserved c =
     let line = c.first_line.result.0.now in
     let behind = lines_left c.first_line.result.1 in
-    let lines : lines_left c.loop-rest.rest ≡ c.first_line.result.0.now ∷ lines_left c.first_line.result.1 = rw c.in-Some.is c.first_line.ensures.lines in
+    let lines : lines_left c.loop-rest.rest ≡ c.first_line.result.0.now ∷ lines_left c.first_line.result.1 =
+    rw c.in-Some.is c.first_line.ensures.lines in
     let number = c.loop-rest.number in
     let count = c.loop-rest.faults.count in
     let fault = fault_of_line (line_in line) in
     record {
       numbered = grind (arith, common_steps);
-      few = let one = faulty_by_few number fault in omega (arith, c.in_ok-add_line.ensures.count, c.loop-rest.invariant.few);
+      few = let one = faulty_by_few number fault in
+          omega (arith, c.in_ok-add_line.ensures.count, c.loop-rest.invariant.few);
       shown =
           rw (c.in_ok-add_line.ensures.shown, c.in_ok-add_line.ensures.count)
           (shown_next number count line (lines_left c.loop-rest.rest) behind lines _ _ c.loop-rest.invariant.shown);

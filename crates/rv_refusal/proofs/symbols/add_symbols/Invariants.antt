@@ -9,7 +9,8 @@ use Rattle.rv_refusal.proofs.symbols.add_symbols.Given as goal
 abbrev pub invariant-loop-rest : goal.invariant-loop-rest
 invariant-loop-rest l =
     map (λ name. name.now) l.symbols.items ++ flat_map (λ line. symbols_on (tokens_on line)) (lines_left l.rest)
-    ≡ map (λ name. name.now) l.initial.symbols.items ++ flat_map (λ line. symbols_on (tokens_on line)) (slice_split (λ byte. byte == 10) l.text)
+    ≡ map (λ name. name.now) l.initial.symbols.items ++ flat_map (λ line. symbols_on (tokens_on line))
+    (slice_split (λ byte. byte == 10) l.text)
 
 abbrev pub decreases-loop-rest : goal.decreases-loop-rest
 decreases-loop-rest l = option_map_or (λ text. length text.now + 1) l.rest 0

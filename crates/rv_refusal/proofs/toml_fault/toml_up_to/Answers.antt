@@ -9,7 +9,8 @@ unfolding toml_up_to
 found text zero some is = absurd (omega arith)
 found text (suc place) some is = ap (λ (b : Bool). if b then suc place else toml_up_to text place) is
 
-further : (text : List ℕ) (place : ℕ) → 0 < place → is_toml_up_to text place ≡ false → toml_up_to text (place - 1) ≡ toml_up_to text place
+further : (text : List ℕ) (place : ℕ) → 0 < place → is_toml_up_to text place ≡ false → toml_up_to text (place - 1)
+    ≡ toml_up_to text place
 unfolding toml_up_to
 further text zero some is = absurd (omega arith)
 further text (suc place) some is =
@@ -28,8 +29,10 @@ returns-then-branch-clause-place c =
 
 pub loop-place-preserved : goal.loop-place-preserved
 loop-place-preserved c =
-    let is : is_toml_up_to c.args.text.now c.loop-place.place ≡ false = search rules in
-    (further c.args.text.now c.loop-place.place c.loop-place-test.true is ∙ c.loop-place.invariant.0, omega (arith, c.loop-place.invariant.1))
+    let is : is_toml_up_to c.args.text.now c.loop-place.place ≡ false = search rules in (
+      further c.args.text.now c.loop-place.place c.loop-place-test.true is ∙ c.loop-place.invariant.0,
+      omega (arith, c.loop-place.invariant.1),
+    )
 
 pub returns-clause-place : goal.returns-clause-place
 returns-clause-place c = none c.args.text.now c.loop-place.place c.loop-place-test.false ∙ c.loop-place.invariant.0

@@ -15,4 +15,5 @@ filter-le n xs i = filter (λ x. le-lt x n i) xs
 
 pub returns-clause-kept : goal.returns-clause-kept
 returns-clause-kept c =
-    filter_same _ (λ x. nat_le x c.args.seq) _ (λ x b f' k. search rules) _ _ c.retain.ensures.filtered ∙ filter-le c.args.seq _
+    filter_same _ (λ x. nat_le x c.args.seq) _ (λ x b f' k. search rules) _ _ c.retain.ensures.filtered
+    ∙ filter-le c.args.seq _

@@ -20,7 +20,8 @@ losses-requires g c =
     let begun =
     begins_tallied c.args.arrivals.now _ c.args.options.now.shown c.hardware.view_is c.shown-hardware.ensures
     c.default.ensures c.in_ok-speculation.ensures.speculated c.in_ok-speculation.ensures.few c.begin-events.ensures
-    c.no_places-places.ensures (few_in_buffer c.shown-hardware.ensures c.in_buffer.ensures.counted c.in_buffer.ensures.few) in
+    c.no_places-places.ensures (few_in_buffer c.shown-hardware.ensures c.in_buffer.ensures.counted
+    c.in_buffer.ensures.few) in
     room_at_end (c.watch-ended.ensures.seen None begun).0 c.count_in_flight.result c.count_in_flight.ensures.few
     c.is_exhausted.ensures.within
 
@@ -29,11 +30,13 @@ returns-clause-run g c =
     let begun =
     begins_tallied c.args.arrivals.now _ c.args.options.now.shown c.hardware.view_is c.shown-hardware.ensures
     c.default.ensures c.in_ok-speculation.ensures.speculated c.in_ok-speculation.ensures.few c.begin-events.ensures
-    c.no_places-places.ensures (few_in_buffer c.shown-hardware.ensures c.in_buffer.ensures.counted c.in_buffer.ensures.few) in
+    c.no_places-places.ensures (few_in_buffer c.shown-hardware.ensures c.in_buffer.ensures.counted
+    c.in_buffer.ensures.few) in
     let run = c.watch-ended.ensures in
     let tallied = run.seen None begun in
     let reached = subst Reachable (c.hardware.view_is ∙ c.shown-hardware.ensures) c.hardware.invariant.reached in
-    tallied_to_the_end tallied.0 c.args.options.now c.count_in_flight.result reached c.is_exhausted.ensures.within run.passes run.counted
+    tallied_to_the_end tallied.0 c.args.options.now c.count_in_flight.result reached
+    c.is_exhausted.ensures.within run.passes run.counted
     (stops_by run c.in-Ok.stop c.in-Ok.is) c.new.ensures
     (c.count_in_flight.ensures.count ∙ ap (λ (h : Hardware). in_flight h.rob h.front) c.shown-left.ensures)
     c.losses.ensures refl

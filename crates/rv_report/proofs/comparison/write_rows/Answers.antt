@@ -10,10 +10,12 @@ pub loop-place-preserved : goal.loop-place-preserved
 loop-place-preserved g c =
     let names = map (λ name. name.items) c.args.names.now in
     let last = rw c.name_at.ensures at c.write_row.ensures in
-    row_said c.args.shown.now names c.args.runs.now c.loop-place.place c.loop-place-test.true _ c.loop-place.invariant last
+    row_said c.args.shown.now names c.args.runs.now c.loop-place.place c.loop-place-test.true _
+    c.loop-place.invariant last
 
 pub returns : goal.returns
 returns g c =
     let names = map (λ name. name.items) c.args.names.now in
-    let all : c.loop-place.place ≡ length c.args.runs.now = omega (arith, c.loop-place-test.false, c.loop-place.auto.place-end) in
+    let all : c.loop-place.place ≡ length c.args.runs.now =
+    omega (arith, c.loop-place-test.false, c.loop-place.auto.place-end) in
     says_same (all_rows c.args.shown.now names c.args.runs.now c.loop-place.place all) c.loop-place.invariant

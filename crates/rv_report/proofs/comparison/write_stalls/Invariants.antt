@@ -6,4 +6,5 @@ use Rattle.rv_report.proofs.comparison.write_stalls.Given as goal
 
 -- the cells so far are written
 abbrev pub invariant-loop-stall : goal.invariant-loop-stall
-invariant-loop-stall g l = Says g.W.Write.contents l.initial.out l.out (flat_map (stall_cell l.stalls) (take l.stall-index l.stall-items))
+invariant-loop-stall g l =
+    Says g.W.Write.contents l.initial.out l.out (flat_map (stall_cell l.stalls) (take l.stall-index l.stall-items))

@@ -4,10 +4,12 @@ use Rattle.rv_report.proofs.LiveReport.{traced_nothing, traced_to_the_end}
 use Rattle.rv_report.proofs.live_report.run_traced.Goals as goal
 
 pub watch-ended-requires-clause-ready : goal.watch-ended-requires-clause-ready
-watch-ended-requires-clause-ready g c = (_, traced_nothing c.default.result (g.W.Write.contents c.args.writer.now) c.default.ensures)
+watch-ended-requires-clause-ready g c =
+    (_, traced_nothing c.default.result (g.W.Write.contents c.args.writer.now) c.default.ensures)
 
 pub returns : goal.returns
 returns g c =
     let run = c.watch-ended.ensures in
     let begun = traced_nothing c.default.result (g.W.Write.contents c.args.writer.now) c.default.ensures in
-    traced_to_the_end run.passes run.counted (stops_by run c.in-Ok.stop c.in-Ok.is) (sym c.requires.traced) (run.seen _ begun) c.new.ensures
+    traced_to_the_end run.passes run.counted (stops_by run c.in-Ok.stop c.in-Ok.is) (sym c.requires.traced)
+    (run.seen _ begun) c.new.ensures

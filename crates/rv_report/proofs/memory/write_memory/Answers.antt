@@ -15,7 +15,8 @@ loop-number-preserved g c =
     let layout = layout_of c.args.hardware.now.values in
     let ram = (seen c.args.hardware.now).ram in
     let is = line_is layout ram c.args.address c.loop-number.number c.word_at.result c.word_at.ensures in
-    says_below (line_in layout ram c.args.address) c.loop-number.number c.loop-number.invariant (says_same is c.write_word.ensures)
+    says_below (line_in layout ram c.args.address) c.loop-number.number c.loop-number.invariant
+    (says_same is c.write_word.ensures)
 
 pub returns : goal.returns
 unfolding texts_below seen_memory_lines

@@ -12,7 +12,8 @@ loop-number-init g c = says_nothing _
 pub loop-number-preserved : goal.loop-number-preserved
 loop-number-preserved g c =
     let machine = c.args.reference.now in
-    let is = line_is machine.layout machine.state.ram c.args.address c.loop-number.number c.word_at.result c.word_at.ensures in
+    let is = line_is machine.layout machine.state.ram c.args.address c.loop-number.number
+    c.word_at.result c.word_at.ensures in
     says_below (line_in machine.layout machine.state.ram c.args.address) c.loop-number.number c.loop-number.invariant
     (says_same is c.write_word.ensures)
 

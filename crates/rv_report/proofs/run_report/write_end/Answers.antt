@@ -7,5 +7,6 @@ pub returns : goal.returns
 unfolding end_lines
 returns g c =
     let seen = c.observe.ensures in
-    let state = says_same (λ i. state_lines (seen.pc i) (seen.registers i) (seen.csrs i) (seen.lines i)) c.write_state.ensures in
+    let state = says_same (λ i. state_lines (seen.pc i) (seen.registers i) (seen.csrs i) (seen.lines i))
+    c.write_state.ensures in
     says_both c.write_stop.ensures (says_both c.write_counts.ensures state)

@@ -12,7 +12,8 @@ use Rattle.rv_report.proofs.speculation.+take_steps.Goals as goal
 abbrev others_of : List Step → List Step
 others_of steps = take (length steps - 1) (drop 1 steps)
 
-apart : (steps : List Step) (step : Step) → 1 ≤ length steps → step ≡ get_or steps 0 step → steps ≡ step ∷ others_of steps
+apart : (steps : List Step) (step : Step) → 1 ≤ length steps → step ≡ get_or steps 0 step →
+    steps ≡ step ∷ others_of steps
 apart [] step some is = absurd (omega (arith, some))
 apart (first ∷ rest) step some is =
     let count : suc (length rest) - 1 ≡ length rest = omega arith in
@@ -52,7 +53,8 @@ returns-then-is_wrong-clause-wrong t c =
 
 pub returns-then-is_wrong-clause-left : goal.returns-then-is_wrong-clause-left
 returns-then-is_wrong-clause-left t c =
-    left_with c.args.steps.now c.step-item.result c.args.predictions.now c.take_step-is_wrong.new.predictions c.take_steps-others.new.predictions
+    left_with c.args.steps.now c.step-item.result c.args.predictions.now c.take_step-is_wrong.new.predictions
+    c.take_steps-others.new.predictions
     c.in-len1-up.len_at_least c.step-item.is
     c.take_step-is_wrong.ensures.left c.take_steps-others.ensures.left
 
@@ -67,6 +69,7 @@ returns-else-is_wrong-clause-wrong t c =
 
 pub returns-else-is_wrong-clause-left : goal.returns-else-is_wrong-clause-left
 returns-else-is_wrong-clause-left t c =
-    left_with c.args.steps.now c.step-item.result c.args.predictions.now c.take_step-is_wrong.new.predictions c.take_steps-others.new.predictions
+    left_with c.args.steps.now c.step-item.result c.args.predictions.now c.take_step-is_wrong.new.predictions
+    c.take_steps-others.new.predictions
     c.in-len1-up.len_at_least c.step-item.is
     c.take_step-is_wrong.ensures.left c.take_steps-others.ensures.left

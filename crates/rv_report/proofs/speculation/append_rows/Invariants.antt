@@ -6,4 +6,5 @@ use Rattle.rv_report.proofs.speculation.append_rows.Given as goal
 -- those so far are appended
 abbrev pub invariant-loop-row : goal.invariant-loop-row
 invariant-loop-row l =
-    l.predictions ≡ buffer (l.fn.predictions.items ++ map prediction_of (take l.row-index l.rows)) l.fn.predictions.capacity
+    l.predictions ≡ buffer (l.fn.predictions.items ++ map prediction_of (take l.row-index l.rows))
+    l.fn.predictions.capacity

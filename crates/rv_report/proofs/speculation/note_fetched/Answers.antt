@@ -20,7 +20,8 @@ loop-place-preserved c =
       items =
           c.note_word.ensures.items
           ∙ ap (λ l. l ++ noted) c.loop-place.invariant.items
-          ∙ sym (picked-more prediction_of_word (λ f. f.cycle == c.args.cycle) c.args.front.now.entries c.loop-place.place word c.word_at.ensures);
+          ∙ sym (picked-more prediction_of_word (λ f. f.cycle == c.args.cycle) c.args.front.now.entries
+          c.loop-place.place word c.word_at.ensures);
       few = omega (arith, more, one, c.loop-place.invariant.few);
       capacity = omega (arith, c.note_word.ensures.capacity, c.loop-place.invariant.capacity);
     }

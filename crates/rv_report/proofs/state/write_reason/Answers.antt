@@ -11,7 +11,8 @@ pub returns-in-Stale : goal.returns-in-Stale
 unfolding stop_text
 returns-in-Stale g c =
     let text_is = c.as_slice.ensures ∙ c.hexadecimal.ensures in
-    rw (c.in-Stale.is, ← text_is) (says_same (ap (λ digits. codes "stale " ++ digits) (append-nil c.as_slice.result.now)) c.put_all.ensures)
+    rw (c.in-Stale.is, ← text_is)
+    (says_same (ap (λ digits. codes "stale " ++ digits) (append-nil c.as_slice.result.now)) c.put_all.ensures)
 
 pub returns-in-Exhausted : goal.returns-in-Exhausted
 unfolding stop_text

@@ -6,4 +6,5 @@ use Rattle.rv_sentences.proofs.kind_lines.write_several.Goals as goal
 pub returns : goal.returns
 unfolding several_text
 returns g c =
-    says_same (otherwise c.args.all.now.count 1 _ _ c.if-all-eq1.false) (says_both c.write_taken.ensures c.write_kinds.ensures)
+    says_same (otherwise c.args.all.now.count 1 _ _ c.if-all-eq1.false)
+    (says_both c.write_taken.ensures c.write_kinds.ensures)

@@ -21,7 +21,8 @@ add_left-requires t c =
     let row = c.in-Some.row.now in
     let before : List Passage = c.in-Some.before.now in
     let all = length c.args.rows.now in
-    let shorter : all ≡ length before + 1 = omega (arith, ap length c.in-Some.ensures.cases.0, length-append before (row ∷ [])) in
+    let shorter : all ≡ length before + 1 =
+    omega (arith, ap length c.in-Some.ensures.cases.0, length-append before (row ∷ [])) in
     let counts =
     counts_of c.args.work.now c.args.loads.now c.args.branches.now c.args.mispredicted.now c.args.outcomes.now in
     let can = can_add_others c.args.costs.now row counts (length before) all (omega (arith, shorter)) c.requires in
@@ -38,7 +39,8 @@ returns-in-Some-clause-branches t c =
     let row = c.in-Some.row.now in
     let before = c.in-Some.before.now in
     let counts = c.args.branches.now in
-    let is = ap (λ (ps : List Passage). with_all (word_in Branch) ps counts) c.in-Some.ensures.cases.0 ∙ with_all-last (word_in Branch) before row counts in
+    let is = ap (λ (ps : List Passage). with_all (word_in Branch) ps counts) c.in-Some.ensures.cases.0
+    ∙ with_all-last (word_in Branch) before row counts in
     c.add_left.ensures.branches ∙ ap (with_all (word_in Branch) before) c.add_row.ensures.branches ∙ sym is
 
 pub returns-in-Some-clause-mispredicted : goal.returns-in-Some-clause-mispredicted
@@ -46,8 +48,10 @@ returns-in-Some-clause-mispredicted t c =
     let row = c.in-Some.row.now in
     let before = c.in-Some.before.now in
     let counts = c.args.mispredicted.now in
-    let is = ap (λ (ps : List Passage). with_all (word_in Mispredicted) ps counts) c.in-Some.ensures.cases.0 ∙ with_all-last (word_in Mispredicted) before row counts in
-    c.add_left.ensures.mispredicted ∙ ap (with_all (word_in Mispredicted) before) c.add_row.ensures.mispredicted ∙ sym is
+    let is = ap (λ (ps : List Passage). with_all (word_in Mispredicted) ps counts) c.in-Some.ensures.cases.0
+    ∙ with_all-last (word_in Mispredicted) before row counts in
+    c.add_left.ensures.mispredicted
+    ∙ ap (with_all (word_in Mispredicted) before) c.add_row.ensures.mispredicted ∙ sym is
 
 pub returns-in-Some-clause-outcomes : goal.returns-in-Some-clause-outcomes
 returns-in-Some-clause-outcomes t c =

@@ -8,4 +8,5 @@ use Rattle.rv_sentences.proofs.longest.write_each.Given as goal
 abbrev pub invariant-loop-counted_line : goal.invariant-loop-counted_line
 invariant-loop-counted_line g l =
     Says g.W.Write.contents l.initial.out l.out
-    (flat_map (longest_line l.listing l.all l.outcomes l.stores l.branches l.mispredicted) (take l.counted_line-index l.counted_lines))
+    (flat_map (longest_line l.listing l.all l.outcomes l.stores l.branches l.mispredicted)
+    (take l.counted_line-index l.counted_lines))

@@ -6,4 +6,6 @@ use Rattle.rv_sentences.proofs.stack.write_each_stall.Given as goal
 
 -- the lines so far are written
 abbrev pub invariant-loop-stall : goal.invariant-loop-stall
-invariant-loop-stall g l = Says g.W.Write.contents l.initial.out l.out (flat_map (stall_line l.stalls l.cycles) (take l.stall-index l.stall-items))
+invariant-loop-stall g l =
+    Says g.W.Write.contents l.initial.out l.out
+    (flat_map (stall_line l.stalls l.cycles) (take l.stall-index l.stall-items))

@@ -6,7 +6,13 @@ use Rattle.rv_sentences.proofs.stays.+add_stays_from.Goals as goal
 pub add_stays_from-requires : goal.add_stays_from-requires
 add_stays_from-requires t c = (
   omega (arith, c.if-place-rows.true),
-  omega (arith, c.if-place-rows.true, stay_counted _ c.args.stays.now c.add_stay.new.stays c.add_stay.ensures.stays, c.requires),
+  omega (
+    arith,
+    c.if-place-rows.true,
+    stay_counted _ c.args.stays.now c.add_stay.new.stays
+        c.add_stay.ensures.stays,
+    c.requires,
+  ),
 )
 
 pub returns-then-place-rows-clause-stays : goal.returns-then-place-rows-clause-stays

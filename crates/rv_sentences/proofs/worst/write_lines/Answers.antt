@@ -6,4 +6,5 @@ use Rattle.rv_sentences.proofs.worst.write_lines.Goals as goal
 pub returns : goal.returns
 returns g c =
     let some : 0 < length c.args.worst.now = search rules in
-    says_same (some_worst c.args.listing.now c.args.branches.now c.args.worst.now some) (says_both c.put.ensures c.write_each.ensures)
+    says_same (some_worst c.args.listing.now c.args.branches.now c.args.worst.now some)
+    (says_both c.put.ensures c.write_each.ensures)

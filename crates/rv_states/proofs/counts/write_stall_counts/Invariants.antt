@@ -6,4 +6,5 @@ use Rattle.rv_states.proofs.counts.write_stall_counts.Given as goal
 
 -- the counts so far are written
 abbrev pub invariant-loop-stall : goal.invariant-loop-stall
-invariant-loop-stall g l = Says g.W.Write.contents l.initial.out l.out (flat_map (stall_count l.stalls) (take l.stall-index l.stall-items))
+invariant-loop-stall g l =
+    Says g.W.Write.contents l.initial.out l.out (flat_map (stall_count l.stalls) (take l.stall-index l.stall-items))

@@ -10,10 +10,12 @@ loop-number-init g c = says_nothing _
 
 pub loop-number-preserved : goal.loop-number-preserved
 loop-number-preserved g c =
-    says_below (numbered_line c.args.listing.now c.args.values.now.ram_base) c.loop-number.number c.loop-number.invariant c.write_numbered.ensures
+    says_below (numbered_line c.args.listing.now c.args.values.now.ram_base) c.loop-number.number
+    c.loop-number.invariant c.write_numbered.ensures
 
 pub returns : goal.returns
 unfolding texts_below listing_lines
 returns g c =
     let all : c.loop-number.number ≡ c.args.values.now.ram_size / 4 = omega arith in
-    says_same (ap (texts_below (numbered_line c.args.listing.now c.args.values.now.ram_base)) all) c.loop-number.invariant
+    says_same (ap (texts_below (numbered_line c.args.listing.now c.args.values.now.ram_base)) all)
+    c.loop-number.invariant

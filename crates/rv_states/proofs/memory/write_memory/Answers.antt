@@ -20,5 +20,6 @@ unfolding texts_below memory_lines
 returns g c =
     let values = c.values-values.result.now in
     let all : c.loop-number.number ≡ values.ram_size / 4 = omega arith in
-    let lines = ap (texts_below (λ number. memory_line c.args.hardware.now (word_address values.ram_base number))) all in
+    let lines = ap (texts_below (λ number. memory_line c.args.hardware.now (word_address values.ram_base number))) all
+    in
     says_same (lines ∙ (λ i. memory_lines c.args.hardware.now (c.values-values.ensures i))) c.loop-number.invariant

@@ -13,18 +13,22 @@ after-both : (predictor : DescribedPredictor) (xs ys : List Lesson) →
 after-both predictor [] ys = refl
 after-both predictor (x ∷ xs) ys = after-both (after_lessons predictor (x ∷ [])) xs ys
 
-apart : (steps : List Step) (step : Step) → 1 ≤ length steps → step ≡ get_or steps 0 step → steps ≡ step ∷ take (length steps - 1) (drop 1 steps)
+apart : (steps : List Step) (step : Step) → 1 ≤ length steps → step ≡ get_or steps 0 step →
+    steps ≡ step ∷ take (length steps - 1) (drop 1 steps)
 apart [] step some is = absurd (omega (arith, some))
 apart (first ∷ rest) step some is =
     let count : suc (length rest) - 1 ≡ length rest = omega arith in
     λ i. sym is i ∷ sym (ap (λ n. take n rest) count ∙ take-length rest) i
 
-taught_on : (steps rest : List Step) (step : Step) (next first : ℕ) (before middle after : DescribedPredictor) → steps ≡ step ∷ rest →
-    first ≡ first_pc rest next → middle ≡ after_lessons before (lesson_of step first) → after ≡ after_lessons middle (lessons_of rest next) →
+taught_on : (steps rest : List Step) (step : Step) (next first : ℕ) (before middle after : DescribedPredictor) →
+    steps ≡ step ∷ rest →
+    first ≡ first_pc rest next → middle ≡ after_lessons before (lesson_of step first) →
+    after ≡ after_lessons middle (lessons_of rest next) →
     after ≡ after_lessons before (lessons_of steps next)
 taught_on steps rest step next first before middle after steps_are first_is middle_is after_is =
     after_is
-    ∙ ap (λ p. after_lessons p (lessons_of rest next)) (middle_is ∙ ap (λ pc. after_lessons before (lesson_of step pc)) first_is)
+    ∙ ap (λ p. after_lessons p (lessons_of rest next))
+    (middle_is ∙ ap (λ pc. after_lessons before (lesson_of step pc)) first_is)
     ∙ sym (after-both before (lesson_of step (first_pc rest next)) (lessons_of rest next))
     ∙ ap (λ all. after_lessons before (lessons_of all next)) (sym steps_are)
 
@@ -32,4 +36,5 @@ pub returns-in-len1-up : goal.returns-in-len1-up
 returns-in-len1-up t c =
     taught_on c.args.steps.now _ c.step-item.result c.args.next c.first_pc.result c.args.predictor.now
     c.teach_step.new.predictor c.teach.new.predictor
-    (apart c.args.steps.now c.step-item.result c.in-len1-up.len_at_least c.step-item.is) c.first_pc.ensures c.teach_step.ensures c.teach.ensures
+    (apart c.args.steps.now c.step-item.result c.in-len1-up.len_at_least c.step-item.is) c.first_pc.ensures
+    c.teach_step.ensures c.teach.ensures

@@ -10,7 +10,9 @@ pub loop-place-preserved : goal.loop-place-preserved
 loop-place-preserved g c =
     let here : c.loop-place.place < length c.args.front.now.entries = omega arith in
     let more = c.write_asked_at-written.ensures in
-    given_on (asked_in c.args.predictor.now c.args.cycle) c.args.front.now.entries here c.loop-place.invariant _ (refl) more.said more.count more.few
+    given_on (asked_in c.args.predictor.now c.args.cycle) c.args.front.now.entries here c.loop-place.invariant _ (refl)
+    more.said more.count more.few
 
 pub returns : goal.returns
-returns g c = given_all (asked_in c.args.predictor.now c.args.cycle) c.args.front.now.entries (omega arith) c.loop-place.invariant
+returns g c = given_all (asked_in c.args.predictor.now c.args.cycle) c.args.front.now.entries (omega arith)
+    c.loop-place.invariant

@@ -14,13 +14,19 @@ returns-in-Some-clause-said g c =
 pub returns-in-Some-clause-count : goal.returns-in-Some-clause-count
 returns-in-Some-clause-count g c =
     let values = asked_in c.args.predictor.now c.args.cycle in
-    c.write_asked_of.ensures.count ∙ ap (λ l. c.args.written + length l) (found_given values c.args.front.now.entries _ _ (sym c.in-Some.ensures))
+    c.write_asked_of.ensures.count
+    ∙ ap (λ l. c.args.written + length l) (found_given values c.args.front.now.entries _ _ (sym c.in-Some.ensures))
 
 pub returns-in-None-clause-said : goal.returns-in-None-clause-said
 returns-in-None-clause-said g c =
     let values = asked_in c.args.predictor.now c.args.cycle in
-    says_same (ap (values_from c.args.written) (missing_given values c.args.front.now.entries _ (sym c.in-None.ensures))) (says_nothing _)
+    says_same (ap (values_from c.args.written)
+    (missing_given values c.args.front.now.entries _ (sym c.in-None.ensures))) (says_nothing _)
 
 pub returns-in-None-clause-count : goal.returns-in-None-clause-count
 returns-in-None-clause-count g c =
-    omega (arith, ap length (missing_given (asked_in c.args.predictor.now c.args.cycle) c.args.front.now.entries _ (sym c.in-None.ensures)))
+    omega (
+      arith,
+      ap length (missing_given (asked_in c.args.predictor.now c.args.cycle) c.args.front.now.entries _
+          (sym c.in-None.ensures)),
+    )

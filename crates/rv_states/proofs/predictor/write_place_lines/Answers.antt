@@ -9,7 +9,8 @@ unfolding texts_below
 loop-place-init g c = says_nothing _
 
 pub loop-place-preserved : goal.loop-place-preserved
-loop-place-preserved g c = says_below (place_line c.args.tables.now) c.loop-place.place c.loop-place.invariant c.write_place_line.ensures
+loop-place-preserved g c = says_below (place_line c.args.tables.now) c.loop-place.place c.loop-place.invariant
+    c.write_place_line.ensures
 
 pub returns : goal.returns
 unfolding texts_below place_lines

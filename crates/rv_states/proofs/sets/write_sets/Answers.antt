@@ -9,11 +9,13 @@ unfolding texts_below
 loop-set-init g c = says_nothing _
 
 pub loop-set-preserved : goal.loop-set-preserved
-loop-set-preserved g c = says_below (set_line c.args.hardware.now) c.loop-set.set c.loop-set.invariant c.write_set_line.ensures
+loop-set-preserved g c = says_below (set_line c.args.hardware.now) c.loop-set.set c.loop-set.invariant
+    c.write_set_line.ensures
 
 pub returns : goal.returns
 unfolding texts_below set_lines
 returns g c =
-    let count : c.values.result.now.cache.sets ≡ c.args.hardware.now.values.cache.sets = λ i. (c.values.ensures i).cache.sets in
+    let count : c.values.result.now.cache.sets ≡ c.args.hardware.now.values.cache.sets =
+    λ i. (c.values.ensures i).cache.sets in
     let all : c.loop-set.set ≡ c.args.hardware.now.values.cache.sets = omega (arith, count) in
     says_same (ap (texts_below (set_line c.args.hardware.now)) all) c.loop-set.invariant

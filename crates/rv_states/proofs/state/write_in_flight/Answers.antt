@@ -12,7 +12,8 @@ use Rattle.rv_states.proofs.state.write_in_flight.Goals as goal
 pub returns : goal.returns
 unfolding in_flight_text
 returns g c =
-    let words = λ (f : FetchBuffer). also (codes "fetch_buffer") (array (map fetched_json f.entries)) ++ next_fetch_text f in
+    let words = λ (f : FetchBuffer). also (codes "fetch_buffer") (array (map fetched_json f.entries))
+    ++ next_fetch_text f in
     let entries = λ (registers : List ℕ) (rob : ReorderBuffer).
     also (codes "reorder_buffer") (array (entries_json (values_in registers) rob.retired rob.entries)) in
     says_both

@@ -7,7 +7,8 @@ use Rattle.rv_states.proofs.states.write_states.Goals as goal
 
 pub new-requires : goal.new-requires
 new-requires g c =
-    let legal = (sound c.hardware.invariant.reached).sizes.legal.predictor in (omega (arith, legal.0), omega (arith, legal.1))
+    let legal = (sound c.hardware.invariant.reached).sizes.legal.predictor in
+    (omega (arith, legal.0), omega (arith, legal.1))
 
 pub run_shown-shown-requires-clause-untaught : goal.run_shown-shown-requires-clause-untaught
 run_shown-shown-requires-clause-untaught g c = c.in-Ok-new.ensures
@@ -15,23 +16,30 @@ run_shown-shown-requires-clause-untaught g c = c.in-Ok-new.ensures
 
 pub returns-then-shown-clause-written : goal.returns-then-shown-clause-written
 returns-then-shown-clause-written g c =
-    let (text, states, wrote) = c.run_shown-shown.ensures in (c.run_shown-shown.result.stop, text, states, rw c.if-shown.true at wrote)
+    let (text, states, wrote) = c.run_shown-shown.ensures in
+    (c.run_shown-shown.result.stop, text, states, rw c.if-shown.true at wrote)
 
 pub returns-else-shown-clause-written : goal.returns-else-shown-clause-written
-returns-else-shown-clause-written g c = let (text, states, wrote) = c.run_shown-shown.ensures in (text, states, rw c.if-shown.false at wrote)
+returns-else-shown-clause-written g c = let (text, states, wrote) = c.run_shown-shown.ensures in
+    (text, states, rw c.if-shown.false at wrote)
 
 -- whatever was written
 pub returns-in_default-clause-one_text : goal.returns-in_default-clause-one_text
-returns-in_default-clause-one_text g c = one_text c.args.arrivals.now c.args.from c.args.limit c.args.form c.args.listing.now
+returns-in_default-clause-one_text g c =
+    one_text c.args.arrivals.now c.args.from c.args.limit c.args.form c.args.listing.now
 
 pub returns-in_default-new-clause-one_text : goal.returns-in_default-new-clause-one_text
-returns-in_default-new-clause-one_text g c = one_text c.args.arrivals.now c.args.from c.args.limit c.args.form c.args.listing.now
+returns-in_default-new-clause-one_text g c =
+    one_text c.args.arrivals.now c.args.from c.args.limit c.args.form c.args.listing.now
 
 pub returns-then-shown-clause-one_text : goal.returns-then-shown-clause-one_text
-returns-then-shown-clause-one_text g c = one_text c.args.arrivals.now c.args.from c.args.limit c.args.form c.args.listing.now
+returns-then-shown-clause-one_text g c =
+    one_text c.args.arrivals.now c.args.from c.args.limit c.args.form c.args.listing.now
 
 pub returns-else-shown-clause-one_text : goal.returns-else-shown-clause-one_text
-returns-else-shown-clause-one_text g c = one_text c.args.arrivals.now c.args.from c.args.limit c.args.form c.args.listing.now
+returns-else-shown-clause-one_text g c =
+    one_text c.args.arrivals.now c.args.from c.args.limit c.args.form c.args.listing.now
 
 pub returns-in_default-with_capacity-clause-one_text : goal.returns-in_default-with_capacity-clause-one_text
-returns-in_default-with_capacity-clause-one_text g c = one_text c.args.arrivals.now c.args.from c.args.limit c.args.form c.args.listing.now
+returns-in_default-with_capacity-clause-one_text g c =
+    one_text c.args.arrivals.now c.args.from c.args.limit c.args.form c.args.listing.now

@@ -12,5 +12,6 @@ returns-clause-kept c = λ place lt none.
 
 pub returns-clause-cleared : goal.returns-clause-cleared
 returns-clause-cleared c = λ place lt set.
-    let both = bit_at_and c.args.mask _ place ∙ ap (min (bit_at c.args.mask place)) (bit_at_not w64 c.args.other place (omega arith) lt) in
+    let both = bit_at_and c.args.mask _ place
+    ∙ ap (min (bit_at c.args.mask place)) (bit_at_not w64 c.args.other place (omega arith) lt) in
     omega (arith, set, both, bit_at-lt c.args.other place)

@@ -10,7 +10,8 @@ pub returns-clause-cleared : goal.returns-clause-cleared
 returns-clause-cleared c = bit_at_clear_same w64 c.args.mask c.args.place c.requires.within
 
 pub returns-clause-others : goal.returns-clause-others
-returns-clause-others c = λ other low apart. bit_at_clear_other w64 c.args.mask c.args.place c.requires.within other low apart
+returns-clause-others c = λ other low apart. bit_at_clear_other w64 c.args.mask c.args.place
+    c.requires.within other low apart
 
 pub returns-clause-fewer : goal.returns-clause-fewer
 returns-clause-fewer c =
@@ -20,5 +21,8 @@ returns-clause-fewer c =
       | inl same ↦
           absurd (let both : bit_at left c.args.place ≡ bit_at c.args.mask c.args.place =
           ap (λ x. bit_at x c.args.place) same in omega (arith, both, gone, c.requires.marked))
-      | inr other ↦ omega (arith, and_le_l c.args.mask (18446744073709551615 - 1 * 2 ^ c.args.place % 18446744073709551616))
+      | inr other ↦ omega (
+        arith,
+        and_le_l c.args.mask (18446744073709551615 - 1 * 2 ^ c.args.place % 18446744073709551616),
+      )
     ]

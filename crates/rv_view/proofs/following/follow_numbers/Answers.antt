@@ -9,5 +9,6 @@ follow_numbers-requires c = can_follow_to (hardware_shown c.hardware.inside) c.h
 
 pub returns : goal.returns
 returns c =
-    subst (λ h. IsNumberedOn c.args.cycle c.args.steps.now h c.args.table.now c.follow_numbers.new.self) c.hardware.view_is
+    subst (λ h. IsNumberedOn c.args.cycle c.args.steps.now h c.args.table.now
+    c.follow_numbers.new.self) c.hardware.view_is
     c.follow_numbers.ensures.followed

@@ -9,11 +9,13 @@ use Rattle.rv_watch.specs.Shown.{hardware_shown}
 use Rattle.rv_view.proofs.following.follow_on.Goals as goal
 
 pub follow_on-requires-clause-ready : goal.follow_on-requires-clause-ready
-follow_on-requires-clause-ready c = can_follow_to (hardware_shown c.hardware.inside) c.hardware.invariant.reached c.requires.ready
+follow_on-requires-clause-ready c =
+    can_follow_to (hardware_shown c.hardware.inside) c.hardware.invariant.reached c.requires.ready
 
 pub follow_on-requires-clause-still : goal.follow_on-requires-clause-still
 follow_on-requires-clause-still c =
-    subst (λ (h : Hardware). AreStill c.args.cycle (with_steps c.args.steps.now h.pc (passages_of c.args.table.now)).rows (in_flight h))
+    subst (λ (h : Hardware). AreStill c.args.cycle
+    (with_steps c.args.steps.now h.pc (passages_of c.args.table.now)).rows (in_flight h))
     (sym c.hardware.view_is) c.requires.still
 
 pub returns : goal.returns

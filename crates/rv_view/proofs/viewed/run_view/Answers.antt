@@ -11,5 +11,12 @@ watch-ended-requires-clause-ready g c = (
 pub returns : goal.returns
 returns g c =
     let run = c.watch-ended.ensures in
-    let begun = viewing_nothing g.V.View.has_seen g.V.View.text c.args.has_failed _ c.requires.follows c.requires.ready (g.met.V.View.nothing_said c.args.view _) in
-    record { moments = run.moments; passes = run.passes; counted = run.counted; ends = run.ends; viewed = run.seen _ begun }
+    let begun = viewing_nothing g.V.View.has_seen g.V.View.text c.args.has_failed _ c.requires.follows c.requires.ready
+    (g.met.V.View.nothing_said c.args.view _) in
+    record {
+      moments = run.moments;
+      passes = run.passes;
+      counted = run.counted;
+      ends = run.ends;
+      viewed = run.seen _ begun;
+    }

@@ -16,5 +16,6 @@ returns-in-Some-clause-step c =
 pub returns-in-Some-clause-only : goal.returns-in-Some-clause-only
 returns-in-Some-clause-only c =
     let found : due c.args.self.now.state.csrs c.args.lines ≡ Some c.in-Some.code = grind arith in
-    let once = not_fetched _ _ _ (λ (fetched : IsFetched c.args.self.now.layout c.args.self.now.state c.args.lines). none-some c.in-Some.code (sym fetched.undisturbed ∙ found)) in
+    let once = not_fetched _ _ _ (λ (fetched : IsFetched c.args.self.now.layout c.args.self.now.state c.args.lines).
+    none-some c.in-Some.code (sym fetched.undisturbed ∙ found)) in
     λ other t step. same_steps once (returns-in-Some-clause-step c) step

@@ -18,7 +18,8 @@ returns-then-not-in_range-clause-step c =
 pub returns-then-not-in_range-clause-only : goal.returns-then-not-in_range-clause-only
 returns-then-not-in_range-clause-only c =
     let outside : is_in_ram c.args.self.now.layout c.args.self.now.state.pc 4 ≡ false = grind arith in
-    let once = not_fetched _ _ _ (λ (fetched : IsFetched c.args.self.now.layout c.args.self.now.state c.args.lines). true≢false (sym fetched.in_ram ∙ outside)) in
+    let once = not_fetched _ _ _ (λ (fetched : IsFetched c.args.self.now.layout c.args.self.now.state c.args.lines).
+    true≢false (sym fetched.in_ram ∙ outside)) in
     λ other t step. same_steps once (returns-then-not-in_range-clause-step c) step
 
 pub returns-then-is_stale-clause-step : goal.returns-then-is_stale-clause-step
@@ -30,7 +31,8 @@ returns-then-is_stale-clause-step c =
 pub returns-then-is_stale-clause-only : goal.returns-then-is_stale-clause-only
 returns-then-is_stale-clause-only c =
     let marked = rw (ap (λ (m : Machine). m.state.pc) c.self.view_is) at c.if-is_stale.ensures.stale in
-    let once = not_fetched _ _ _ (λ (fetched : IsFetched c.args.self.now.layout c.args.self.now.state c.args.lines). true≢false (marked ∙ fetched.fresh)) in
+    let once = not_fetched _ _ _ (λ (fetched : IsFetched c.args.self.now.layout c.args.self.now.state c.args.lines).
+    true≢false (marked ∙ fetched.fresh)) in
     λ other t step. same_steps once (returns-then-is_stale-clause-step c) step
 
 pub returns-in-None-clause-step : goal.returns-in-None-clause-step
@@ -52,11 +54,13 @@ returns-in-None-clause-only c =
 pub returns-in-Some-clause-only : goal.returns-in-Some-clause-only
 returns-in-Some-clause-only c =
     let word : c.number-word.result ≡ word_at_pc c.args.self.now.layout c.args.self.now.state = grind arith in
-    let once = decoded_some c.args.self.now.layout c.args.self.now.state c.args.lines _ word c.in-Some.instruction c.in-Some.ensures.complete c.in-Some.ensures.illegal.1 in
+    let once = decoded_some c.args.self.now.layout c.args.self.now.state c.args.lines _ word c.in-Some.instruction
+    c.in-Some.ensures.complete c.in-Some.ensures.illegal.1 in
     λ other t step. same_steps once c.retire_or_fault.ensures.step step
 
 pub returns-in-Some-clause-in_ram : goal.returns-in-Some-clause-in_ram
 returns-in-Some-clause-in_ram c =
     let word : c.number-word.result ≡ word_at_pc c.args.self.now.layout c.args.self.now.state = grind arith in
-    let once = decoded_some c.args.self.now.layout c.args.self.now.state c.args.lines _ word c.in-Some.instruction c.in-Some.ensures.complete c.in-Some.ensures.illegal.1 in
+    let once = decoded_some c.args.self.now.layout c.args.self.now.state c.args.lines _ word c.in-Some.instruction
+    c.in-Some.ensures.complete c.in-Some.ensures.illegal.1 in
     λ retired. retired_stays once c.retire_or_fault.ensures.step retired

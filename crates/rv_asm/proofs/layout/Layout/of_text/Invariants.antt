@@ -11,7 +11,8 @@ use Rattle.rv_asm.proofs.layout.Layout.of_text.Given as goal
 abbrev pub invariant-loop-rest : goal.invariant-loop-rest
 invariant-loop-rest l = record {
   numbered : IfSome l.rest (λ text. l.number + length text.now ≤ length l.text + 1);
-  faults : first_fault_of (lines_of l.text) ≡ earliest l.number (first_faults (layout_of l.layout) (map line_in (lines_left l.rest)));
+  faults : first_fault_of (lines_of l.text)
+      ≡ earliest l.number (first_faults (layout_of l.layout) (map line_in (lines_left l.rest)));
   whole : layout (lines_of l.text) ≡ laid (layout_of l.layout) (map line_in (lines_left l.rest));
   places : kept 1 unlaid (slice_split (λ byte. byte == 10) l.text)
       ≡ kept_in l.layout.records.items ++ kept l.number (layout_of l.layout) (lines_left l.rest);

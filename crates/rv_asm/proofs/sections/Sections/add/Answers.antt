@@ -13,4 +13,5 @@ pub returns-in-Data-clause-text : goal.returns-in-Data-clause-text
 returns-in-Data-clause-text c = nothing_added Text Data _ c.emit_line-in-Data.result _ _ c.in-Data.is refl
 
 pub returns-in-Data-clause-data_bytes : goal.returns-in-Data-clause-data_bytes
-returns-in-Data-clause-data_bytes c = added_here Data _ c.emit_line-in-Data.result _ _ _ c.in-Data.is c.emit_line-in-Data.ensures.emitted
+returns-in-Data-clause-data_bytes c = added_here Data _ c.emit_line-in-Data.result _ _ _ c.in-Data.is
+    c.emit_line-in-Data.ensures.emitted

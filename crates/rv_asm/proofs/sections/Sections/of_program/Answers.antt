@@ -14,9 +14,12 @@ loop-line-preserved c =
     let base = c.args.program.now.base in
     let whole = layout_of c.args.program.now.layout.now in
     record {
-      fault = sym (next_fault lines i _ c.loop-line-test.true _ _ c.in_default.ensures.clean) ∙ c.loop-line.invariant.fault;
-      text = begins_next lines i _ c.loop-line-test.true base whole Text c.loop-line.invariant.text c.in_default.ensures.text;
-      data_bytes = begins_next lines i _ c.loop-line-test.true base whole Data c.loop-line.invariant.data_bytes c.in_default.ensures.data_bytes;
+      fault = sym (next_fault lines i _ c.loop-line-test.true _ _ c.in_default.ensures.clean)
+          ∙ c.loop-line.invariant.fault;
+      text = begins_next lines i _ c.loop-line-test.true base whole Text c.loop-line.invariant.text
+          c.in_default.ensures.text;
+      data_bytes = begins_next lines i _ c.loop-line-test.true base whole Data c.loop-line.invariant.data_bytes
+          c.in_default.ensures.data_bytes;
     }
 
 pub returns-in-Err-clause-refused : goal.returns-in-Err-clause-refused
@@ -34,7 +37,9 @@ pub returns-clause-clean : goal.returns-clause-clean
 returns-clause-clean c = rw (← c.deref-line-items.ensures.value) (sym (rw (finished c) at c.loop-line.invariant.fault))
 
 pub returns-clause-text : goal.returns-clause-text
-returns-clause-text c = rw (← c.deref-line-items.ensures.value) (begins_all (rw (finished c) at c.loop-line.invariant.text))
+returns-clause-text c = rw (← c.deref-line-items.ensures.value)
+    (begins_all (rw (finished c) at c.loop-line.invariant.text))
 
 pub returns-clause-data_bytes : goal.returns-clause-data_bytes
-returns-clause-data_bytes c = rw (← c.deref-line-items.ensures.value) (begins_all (rw (finished c) at c.loop-line.invariant.data_bytes))
+returns-clause-data_bytes c =
+    rw (← c.deref-line-items.ensures.value) (begins_all (rw (finished c) at c.loop-line.invariant.data_bytes))

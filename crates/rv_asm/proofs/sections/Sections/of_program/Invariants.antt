@@ -14,7 +14,10 @@ invariant-loop-line l =
     let whole = layout_of l.program.layout.now in
     let rest = drop l.line-index l.line-items in
     record {
-      fault : first_with_fault (second_fault base whole) (kept_in rest) ≡ first_with_fault (second_fault base whole) (kept_in l.line-items);
-      text : Begins (contents base whole Text (lines_in l.line-items)) (contents base whole Text (lines_in rest)) l.sections.text.items;
-      data_bytes : Begins (contents base whole Data (lines_in l.line-items)) (contents base whole Data (lines_in rest)) l.sections.data_bytes.items;
+      fault : first_with_fault (second_fault base whole) (kept_in rest)
+          ≡ first_with_fault (second_fault base whole) (kept_in l.line-items);
+      text : Begins (contents base whole Text (lines_in l.line-items)) (contents base whole Text (lines_in rest))
+          l.sections.text.items;
+      data_bytes : Begins (contents base whole Data (lines_in l.line-items)) (contents base whole Data (lines_in rest))
+          l.sections.data_bytes.items;
     }

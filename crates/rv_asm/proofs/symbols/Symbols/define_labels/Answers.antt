@@ -8,7 +8,8 @@ pub loop-name-preserved : goal.loop-name-preserved
 loop-name-preserved c =
     let rest = c.loop-name.rest.now in
     let before = rw c.in-Some.ensures.labels at c.loop-name.invariant in
-    let new : is_some (found c.loop-name.self c.in-Some.name.now) ≡ false = ap is_some (sym c.get.ensures) ∙ sym c.is_some.ensures ∙ c.if-is_some.false in
+    let new : is_some (found c.loop-name.self c.in-Some.name.now) ≡ false = ap is_some (sym c.get.ensures)
+    ∙ sym c.is_some.ensures ∙ c.if-is_some.false in
     let others = take_all (length rest - 2) (drop 2 rest) (omega (arith, length-drop 2 rest)) in
     record {
       faults = rw (others, c.in_ok-define.ensures) (before.faults ∙ rw new refl);

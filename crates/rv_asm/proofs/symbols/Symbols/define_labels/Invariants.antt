@@ -12,9 +12,11 @@ abbrev pub invariant-loop-name : goal.invariant-loop-name
 invariant-loop-name l = record {
   faults : label_fault (found l.initial.self) l.here (labels_of (tokens_in l.tokens))
       ≡ label_fault (found l.self) l.here (labels_of (tokens_in l.rest));
-  labels : labelled (found l.initial.self) l.here (labels_of (tokens_in l.tokens)) ≡ labelled (found l.self) l.here (labels_of (tokens_in l.rest));
+  labels : labelled (found l.initial.self) l.here (labels_of (tokens_in l.tokens))
+      ≡ labelled (found l.self) l.here (labels_of (tokens_in l.rest));
   body : body_of (tokens_in l.tokens) ≡ body_of (tokens_in l.rest);
-  start : list_any is_start (labels_of (tokens_in l.tokens)) ≡ (l.starts || list_any is_start (labels_of (tokens_in l.rest)));
+  start : list_any is_start (labels_of (tokens_in l.tokens))
+      ≡ (l.starts || list_any is_start (labels_of (tokens_in l.rest)));
 }
 
 abbrev pub decreases-loop-name : goal.decreases-loop-name

@@ -8,7 +8,9 @@ write_back_victim-requires-clause-inside g c =
     let s = c.self.inside in
     let memory = g.M.Backing.bytes s.backing in
     let number = c.args.address / s.values.line in
-    let read = get_or_read s.sets.items (number % s.values.sets) c.index_mut.result.now (place_in s.base s.values s.bytes.items memory s.sets.items c.self.invariant number) c.index_mut.ensures.value [] in
+    let read = get_or_read s.sets.items (number % s.values.sets) c.index_mut.result.now
+    (place_in s.base s.values s.bytes.items memory s.sets.items c.self.invariant number)
+    c.index_mut.ensures.value [] in
     rw (c.access-access.ensures.victim, c.deref.ensures.value, read)
     (dropped_inside s.base s.values s.bytes.items memory s.sets.items c.self.invariant number)
 
@@ -18,8 +20,17 @@ invariant_of-self g c =
     let memory = g.M.Backing.bytes s.backing in
     let cached = rw (← c.self.view_is) at c.requires.cached in
     let number = c.args.address / s.values.line in
-    let read = get_or_read s.sets.items (number % s.values.sets) c.index_mut.result.now (place_in s.base s.values s.bytes.items memory s.sets.items c.self.invariant number) c.index_mut.ensures.value [] in
-    rw (c.access-access.ensures.lines, c.write_back_victim.ensures.written, c.access-access.ensures.victim, c.deref.ensures.value, read) (consistent_after s.base s.values s.bytes.items memory s.sets.items c.self.invariant c.args.address cached.0 cached.1 c.args.writes)
+    let read = get_or_read s.sets.items (number % s.values.sets) c.index_mut.result.now
+    (place_in s.base s.values s.bytes.items memory s.sets.items c.self.invariant number)
+    c.index_mut.ensures.value [] in
+    rw (
+      c.access-access.ensures.lines,
+      c.write_back_victim.ensures.written,
+      c.access-access.ensures.victim,
+      c.deref.ensures.value,
+      read,
+    ) (consistent_after s.base s.values s.bytes.items memory s.sets.items
+    c.self.invariant c.args.address cached.0 cached.1 c.args.writes)
 
 pub returns-clause-elsewhere : goal.returns-clause-elsewhere
 returns-clause-elsewhere g c i =
@@ -27,7 +38,9 @@ returns-clause-elsewhere g c i =
     let memory = g.M.Backing.bytes s.backing in
     let cached = rw (← c.self.view_is) at c.requires.cached in
     let number = c.args.address / s.values.line in
-    let read = get_or_read s.sets.items (number % s.values.sets) c.index_mut.result.now (place_in s.base s.values s.bytes.items memory s.sets.items c.self.invariant number) c.index_mut.ensures.value [] in
+    let read = get_or_read s.sets.items (number % s.values.sets) c.index_mut.result.now
+    (place_in s.base s.values s.bytes.items memory s.sets.items c.self.invariant number)
+    c.index_mut.ensures.value [] in
     rw (
       c.write_back_victim.ensures.written,
       c.access-access.ensures.victim,

@@ -12,7 +12,8 @@ invariant_of-result g c =
     let divides = line_divides c.values.result.cache.line shape.line.0 shape.line.1 shape.line_power in
     let positive : 0 < c.values.result.cache.line = omega (arith, shape.line.0) in
     let same_count = c.read_block.auto.block ∙ c.deref_mut.ensures.len in
-    let whole : c.read_block.new.block ≡ memory = c.read_block.ensures ∙ take_all _ memory (omega (arith, c.deref_mut.ensures.len, c.in_ok-bytes.ensures.len, c.size.ensures)) in
+    let whole : c.read_block.new.block ≡ memory = c.read_block.ensures
+    ∙ take_all _ memory (omega (arith, c.deref_mut.ensures.len, c.in_ok-bytes.ensures.len, c.size.ensures)) in
     rw (take_at c.read_block.new.block _ c.in_ok-bytes.bytes.len same_count, whole, c.in_ok-sets.ensures)
     (consistent_new c.args.base c.values.result.cache memory record {
       legal = cache;

@@ -9,7 +9,14 @@ invariant_of-self g c =
     let memory = g.M.Backing.bytes s.backing in
     let all_seen = memory_written s.base s.values s.bytes.items memory s.sets.items c.self.invariant in
     let same_count = c.write_back_sets.auto.sets ∙ c.deref_mut.ensures.len in
-    rw (take_at c.write_back_sets.new.sets _ s.sets.len same_count, c.write_back_sets.ensures.cleaned, c.write_back_sets.ensures.written, c.deref_mut.ensures.value, c.deref.ensures.value) (consistent_cleaned s.base s.values s.bytes.items memory s.sets.items c.self.invariant _ all_seen)
+    rw (
+      take_at c.write_back_sets.new.sets _ s.sets.len same_count,
+      c.write_back_sets.ensures.cleaned,
+      c.write_back_sets.ensures.written,
+      c.deref_mut.ensures.value,
+      c.deref.ensures.value,
+    )
+    (consistent_cleaned s.base s.values s.bytes.items memory s.sets.items c.self.invariant _ all_seen)
 
 pub returns-clause-written : goal.returns-clause-written
 returns-clause-written g c =

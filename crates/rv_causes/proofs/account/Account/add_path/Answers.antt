@@ -15,10 +15,13 @@ loop-event-preserved c =
     let one = ap length split ∙ length-append new (event ∷ []) in
     record {
       account =
-          ap (with_path new) c.add.ensures.account ∙ sym (with_path-append new (event ∷ []) (accounted c.loop-event.self))
-          ∙ ap (λ (path : List Event). with_path path (accounted c.loop-event.self)) (sym split) ∙ c.loop-event.invariant.account;
+          ap (with_path new) c.add.ensures.account
+          ∙ sym (with_path-append new (event ∷ []) (accounted c.loop-event.self))
+          ∙ ap (λ (path : List Event). with_path path (accounted c.loop-event.self)) (sym split)
+          ∙ c.loop-event.invariant.account;
       room = omega (arith, one, c.add.ensures.few, c.add.ensures.capacity, c.loop-event.invariant.room);
-      spare = λ more room. let before = c.loop-event.invariant.spare more room in omega (arith, one, before, c.add.ensures.few, c.add.ensures.capacity);
+      spare = λ more room. let before = c.loop-event.invariant.spare more room in
+          omega (arith, one, before, c.add.ensures.few, c.add.ensures.capacity);
       capacity = omega (arith, c.pop.ensures.capacity, c.loop-event.invariant.capacity);
     }
 

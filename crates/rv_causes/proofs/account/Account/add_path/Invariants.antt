@@ -8,7 +8,8 @@ abbrev pub invariant-loop-event : goal.invariant-loop-event
 invariant-loop-event l = record {
   account : with_path l.path.items (accounted l.self) ≡ with_path l.initial.path.items (accounted l.initial.self);
   room : HasRoomFor (length l.path.items) l.self;
-  spare : (more : ℕ) → HasRoomFor (length l.initial.path.items + more) l.initial.self → HasRoomFor (length l.path.items + more) l.self;
+  spare : (more : ℕ) → HasRoomFor (length l.initial.path.items + more) l.initial.self →
+      HasRoomFor (length l.path.items + more) l.self;
   capacity : vec_capacity l.initial.path ≤ vec_capacity l.path;
 }
 

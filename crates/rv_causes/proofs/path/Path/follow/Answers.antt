@@ -29,7 +29,8 @@ returns-clause-known c events =
       ap
           (λ (ws : List Way). length ws) c.as_mut_slice.ensures.value,
     )) in
-    let Is = λ (holds : List UnitHold) (ways : List Way). IsSeen (setting_by cycle holds before) steps after (drop path.dropped ways) now seen in
+    let Is = λ (holds : List UnitHold) (ways : List Way). IsSeen (setting_by cycle holds before) steps after
+    (drop path.dropped ways) now seen in
     let is =
     subst (λ (holds : List UnitHold). Is holds path.ways.items) c.as_slice.ensures.value
     (subst (Is c.as_slice.result.now) c.as_mut_slice.ensures.value c.see_shown.ensures.seen) in
@@ -40,7 +41,8 @@ returns-clause-known c events =
       before = before_with cycle.number steps seen before;
       events = with_events made events;
     })
-    ∙ known-seen (setting_by cycle path.holds.items before) steps after (drop path.dropped path.ways.items) now seen events is
+    ∙ known-seen (setting_by cycle path.holds.items before) steps after
+    (drop path.dropped path.ways.items) now seen events is
 
 pub returns-clause-made : goal.returns-clause-made
 returns-clause-made c =

@@ -7,5 +7,6 @@ pub returns : goal.returns
 returns c =
     let path = c.args.self.now in
     let rows = c.args.rows.now in
-    let long : length (ways_of path) ≡ length rows = omega (arith, length-drop path.dropped path.ways.items, c.len.ensures, c.if-len-self.false) in
+    let long : length (ways_of path) ≡ length rows =
+    omega (arith, length-drop path.dropped path.ways.items, c.len.ensures, c.if-len-self.false) in
     are_forgotten rows (ways_of path) c.args.ended c.requires.ended long

@@ -19,7 +19,8 @@ returns-clause-known c events =
     ∙ (λ i. still_in_flight rows
     (drop (held.others.1 i) (held.others.0 i).items
     ++ ways_by (held.others.6 i).fetch (length rows - length (drop (held.others.1 i) (held.others.0 i).items)))) in
-    let holds = (λ i. (ended.others.0 i).items) ∙ (λ i. (put.others.3 i).items) ∙ (λ i. (fetched.others.0 i).items) ∙ held.holds in
+    let holds = (λ i. (ended.others.0 i).items) ∙ (λ i. (put.others.3 i).items)
+    ∙ (λ i. (fetched.others.0 i).items) ∙ held.holds in
     let before =
     ended.others.1 ∙ put.before ∙ (λ i. before_with number steps (fetched.others.5 i) (fetched.others.2 i))
     ∙ (λ i. before_with number steps (held.others.6 i) (held.others.3 i)) in
@@ -27,4 +28,5 @@ returns-clause-known c events =
 
 pub returns-clause-window : goal.returns-clause-window
 returns-clause-window c =
-    c.drop_ended.ensures.others.2 ∙ c.take_before.ensures.others.4 ∙ c.take_fetched.ensures.others.3 ∙ c.take_holds.ensures.others.4
+    c.drop_ended.ensures.others.2 ∙ c.take_before.ensures.others.4 ∙ c.take_fetched.ensures.others.3
+    ∙ c.take_holds.ensures.others.4

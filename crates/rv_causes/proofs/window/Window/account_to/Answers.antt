@@ -3,7 +3,8 @@ use Rattle.rv_causes.proofs.window.Window.account_to.Goals as goal
 
 pub add_path-requires : goal.add_path-requires
 add_path-requires c = record {
-  room = c.begin_at.ensures.room (length c.walk-beyond.new.path.items) (omega (arith, c.in_ok-reserve-2.ensures.room, c.len.ensures));
+  room = c.begin_at.ensures.room (length c.walk-beyond.new.path.items)
+      (omega (arith, c.in_ok-reserve-2.ensures.room, c.len.ensures));
 }
 
 pub returns-clause-room : goal.returns-clause-room

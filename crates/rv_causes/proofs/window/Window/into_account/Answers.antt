@@ -14,4 +14,5 @@ returns c = λ all is passes.
     let whole = take_all c.len-count.result events (omega (arith, c.len-count.ensures)) in
     c.add.ensures.account
     ∙ ap (with_event c.args.end.now) (c.in_ok-account_to.ensures.account
-    ∙ ap (λ (es : List Event). account_to (reverse es) before (accounted c.args.self.account)) whole ∙ account-end c.args.self all before is passes)
+    ∙ ap (λ (es : List Event). account_to (reverse es) before (accounted c.args.self.account)) whole
+    ∙ account-end c.args.self all before is passes)

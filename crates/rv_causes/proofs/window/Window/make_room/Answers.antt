@@ -12,7 +12,8 @@ returns-clause-window c = λ pass all is.
     window_alike c.if-len-le1.self c.reserve.new.self all c.reserve.ensures.alike
     (elim c.if-len-le1.branch [
       | then-len-le1+in_ok-move_root w ↦
-          let root = w.only.ensures ∙ ap (λ (points : List Point). slice_get points 0) w.as_slice-then-len-le1.ensures.value in
+          let root = w.only.ensures ∙ ap (λ (points : List Point). slice_get points 0)
+          w.as_slice-then-len-le1.ensures.value in
           subst (λ (window : Window). IsWindow window all) (sym w.self-is)
           (window_met old w.move_root.new.self c.as_slice.result.now c.meet-place.result w.only.result
           c.meet-place.new.wanted.items c.args.live.now.items c.as_slice.ensures.value root
@@ -26,7 +27,8 @@ returns-clause-pass c = λ pass.
     pass_alike c.if-len-le1.self c.reserve.new.self c.args.live.now.items c.reserve.ensures.alike
     (elim c.if-len-le1.branch [
       | then-len-le1+in_ok-move_root w ↦
-          let root = w.only.ensures ∙ ap (λ (points : List Point). slice_get points 0) w.as_slice-then-len-le1.ensures.value in
+          let root = w.only.ensures ∙ ap (λ (points : List Point). slice_get points 0)
+          w.as_slice-then-len-le1.ensures.value in
           let few : length c.meet-place.new.wanted.items ≤ 1 = omega (arith, c.len.ensures, w.if-len-le1.true) in
           subst (λ (window : Window). AllPass window c.args.live.now.items) (sym w.self-is)
           (pass_met old w.move_root.new.self c.as_slice.result.now c.meet-place.result w.only.result

@@ -28,7 +28,8 @@ returns-in-Err-clause-changes c =
 
 pub invariant_of-self : goal.invariant_of-self
 invariant_of-self c = record {
-  order = in_order-made c.args.address (λ w. w) (λ w. refl) c.args.self.now.words.items c.begin_at.new.words.items c.args.self.now.order
+  order = in_order-made c.args.address (λ w. w) (λ w. refl) c.args.self.now.words.items
+      c.begin_at.new.words.items c.args.self.now.order
       (c.begin_at.ensures.items
       ∙ begun-new c.args.address c.args.self.now.words.items c.in-Err.place
       (subst (IsPlaceFor c.args.address c.in-Err.place) c.as_slice.ensures.value c.in-Err.ensures.absent));

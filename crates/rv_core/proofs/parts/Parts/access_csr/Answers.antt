@@ -7,11 +7,13 @@ pub invariant_of-self : goal.invariant_of-self
 invariant_of-self c = sound_apart c.self.inside c.csr_access.new.self c.self.inside.stale c.self.invariant refl refl
 
 pub invariant_of-self-in-Err : goal.invariant_of-self-in-Err
-invariant_of-self-in-Err c = sound_apart c.self.inside c.csr_access.new.self c.self.inside.stale c.self.invariant refl refl
+invariant_of-self-in-Err c = sound_apart c.self.inside c.csr_access.new.self c.self.inside.stale
+    c.self.invariant refl refl
 
 pub returns-in-Ok-clause-kept : goal.returns-in-Ok-clause-kept
 returns-in-Ok-clause-kept c =
-    kept_apart c.self.inside c.csr_access.new.self c.self.inside.stale c.args.self.now c.serialise.new.self c.self.view_is
+    kept_apart c.self.inside c.csr_access.new.self c.self.inside.stale c.args.self.now
+    c.serialise.new.self c.self.view_is
     (kept_serialising _ c.serialise.new.self _ _ c.serialise.ensures.hardware)
 
 pub returns-in-Err-clause-kept : goal.returns-in-Err-clause-kept

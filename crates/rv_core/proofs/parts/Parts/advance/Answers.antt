@@ -26,17 +26,22 @@ legal g c = subst (λ (h : Hardware). IsLegal h.values) c.self.view_is c.self.in
 -- what the commit phase left
 commits : (g : Over) (c : After-self-2 g) →
     c.commit-stop.new.self ≡ (commit_with set.contains c.args.lines c.args.self.now).hardware
-commits g c = c.commit-stop.ensures.hardware ∙ ap (λ h. (commit set.contains (with_lines c.args.lines h)).hardware) c.self.view_is
+commits g c = c.commit-stop.ensures.hardware
+    ∙ ap (λ h. (commit set.contains (with_lines c.args.lines h)).hardware) c.self.view_is
 
-stops : (g : Over) (c : After-self-2 g) → c.commit-stop.result ≡ (commit_with set.contains c.args.lines c.args.self.now).stop
+stops : (g : Over) (c : After-self-2 g) →
+    c.commit-stop.result ≡ (commit_with set.contains c.args.lines c.args.self.now).stop
 stops g c = c.commit-stop.ensures.stop ∙ ap (λ h. (commit set.contains (with_lines c.args.lines h)).stop) c.self.view_is
 
 counted : (g : Over) (c : After-self-2 g) →
-    Commits c.args.self.now.cycle c.args.self.now.values.commit_width (commit_with set.contains c.args.lines c.args.self.now)
-counted g c = committing-now c.args.lines c.args.self.now c.commit-stop.new.self (legal g c).pipeline.commit_width.0 (commits g c)
+    Commits c.args.self.now.cycle c.args.self.now.values.commit_width
+    (commit_with set.contains c.args.lines c.args.self.now)
+counted g c = committing-now c.args.lines c.args.self.now c.commit-stop.new.self
+    (legal g c).pipeline.commit_width.0 (commits g c)
 
 -- what the phases up to dispatch left
-broadcast_left : (g : Over) (c : After-self-2 g) → c.broadcast.new.self ≡ broadcast (issue (drain c.commit-stop.new.self))
+broadcast_left : (g : Over) (c : After-self-2 g) →
+    c.broadcast.new.self ≡ broadcast (issue (drain c.commit-stop.new.self))
 broadcast_left g c = c.broadcast.ensures ∙ ap broadcast (c.issue.ensures ∙ ap issue c.drain.ensures)
 
 executed : (g : Over) (c : After-self-2 g) → c.dispatch-dispatched.new.self ≡ (execute c.commit-stop.new.self).hardware
@@ -88,7 +93,8 @@ returns-clause-cycle g c =
       record {
         learns =
             taught_as ((goal.Predictor-dyn g c.args.predictor.now).known c.args.predictor.now.1)
-            ((goal.Predictor-dyn g (c.args.predictor.now.0, c.commit-stop.new.predictor)).known c.commit-stop.new.predictor)
+            ((goal.Predictor-dyn g (c.args.predictor.now.0, c.commit-stop.new.predictor)).known
+            c.commit-stop.new.predictor)
             _ (commit_with set.contains lines old).steps _ _ same (sym here) c.commit-stop.ensures.taught;
         cycle = subst (IsCycle _ lines old report) new done;
       },

@@ -11,6 +11,7 @@ loop-preserved c =
 
 pub returns-then-not-broadcast_one : goal.returns-then-not-broadcast_one
 returns-then-not-broadcast_one c =
-    turned-ends broadcast_turn (broadcast c.args.self.now) (c.self.inside.values.bus_width - c.loop.counter) c.loop.self _
+    turned-ends broadcast_turn (broadcast c.args.self.now) (c.self.inside.values.bus_width
+    - c.loop.counter) c.loop.self _
     (omega (arith, c.loop-test.true)) c.loop.invariant
     (c.broadcast_one.ensures ∙ ap (λ b. turn_of b c.broadcast_one.new.self) c.if-not-broadcast_one.true)

@@ -20,7 +20,8 @@ none c = sym c.grant_one.ensures.lowest_ready ∙ c.in_default.is
 pub invariant_of-self : goal.invariant_of-self
 invariant_of-self c =
     let p = c.self.inside in
-    let same = c.grant_one.ensures.others_stay ∙ unsent_bus p c.self.invariant (none (goal.at.invariant_of-self c).In_default) in
+    let same = c.grant_one.ensures.others_stay
+    ∙ unsent_bus p c.self.invariant (none (goal.at.invariant_of-self c).In_default) in
     subst IsSound (λ i. record p { bus = sym same i }) c.self.invariant
 
 pub returns-in_default : goal.returns-in_default
@@ -47,7 +48,8 @@ left c = record c.self.inside {
   stores = c.send-goes_on.new.stores;
 }
 
-found : (c : After-finish) → find (is_ready_result c.self.inside.cycle) c.self.inside.bus.results ≡ Some c.in-Some.pending
+found : (c : After-finish) → find (is_ready_result c.self.inside.cycle) c.self.inside.bus.results
+    ≡ Some c.in-Some.pending
 found c = sym c.grant_one.ensures.lowest_ready ∙ c.in-Some.is
 
 abbrev sent : (c : After-finish) →
@@ -64,7 +66,8 @@ left-is c =
     ∙ ap (λ stage. Finished (issue_of stage) p.cycle s.message) (sym s.running)) in
     let rob = c.finish.ensures
     ∙ ap (λ entries. record p.rob { entries = entries })
-    (with_entry-alike (broadcast_in p.cycle) (finished s.message p.cycle) seq p.rob.retired p.rob.entries s.entry s.held ends) in
+    (with_entry-alike (broadcast_in p.cycle) (finished s.message p.cycle) seq p.rob.retired p.rob.entries
+    s.entry s.held ends) in
     let stations = c.send-goes_on.ensures.carried s.entry s.issue s.message (s.held, s.running) in
     let stores = c.send-goes_on.ensures.stored s.entry s.issue s.message (s.held, s.running) in
     λ i. record p { bus = c.grant_one.ensures.others_stay i; rob = rob i; stations = stations i; stores = stores i }
@@ -72,7 +75,8 @@ left-is c =
 left-sound : (c : After-finish) → IsSound (left c)
 left-sound c = subst IsSound (sym (left-is c)) (sent-sound c.self.inside c.self.invariant c.in-Some.pending (found c))
 
-left-view : (c : After-finish) → hardware_of (left c) ≡ sent_to c.self.inside c.self.invariant c.in-Some.pending (found c)
+left-view : (c : After-finish) →
+    hardware_of (left c) ≡ sent_to c.self.inside c.self.invariant c.in-Some.pending (found c)
 left-view c = ap hardware_of (left-is c) ∙ sent-is c.self.inside c.self.invariant c.in-Some.pending (found c)
 
 -- whether a wrong prediction is mended
@@ -91,7 +95,8 @@ some-mends : (mends : Bool) (next_pc found : ℕ) → cond mends (Some next_pc) 
     (found ≡ next_pc)
 some-mends mends next_pc found is = (grind arith, grind arith)
 
-mended : (c : After-finish) (next_pc : ℕ) → c.send-goes_on.result ≡ Some next_pc → (mends c ≡ true) × (next_pc ≡ (sent c).message.next_pc)
+mended : (c : After-finish) (next_pc : ℕ) → c.send-goes_on.result ≡ Some next_pc →
+    (mends c ≡ true) × (next_pc ≡ (sent c).message.next_pc)
 mended c next_pc is = some-mends (mends c) (sent c).message.next_pc next_pc (sym (goes_on c) ∙ is)
 
 pub invariant_of-self-in_default-goes_on : goal.invariant_of-self-in_default-goes_on

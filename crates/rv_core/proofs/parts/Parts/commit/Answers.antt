@@ -34,13 +34,15 @@ returns-in-Some-clause-steps g c =
     ∙ ap (λ (x : Committing). x.steps) (taken g (goal.at.returns-in-Some-clause-steps g c).In-Some)) c.take.ensures
 
 pub returns-in-Some-clause-stop : goal.returns-in-Some-clause-stop
-returns-in-Some-clause-stop g c = ap (λ (x : Committing). x.stop) (taken g (goal.at.returns-in-Some-clause-stop g c).In-Some)
+returns-in-Some-clause-stop g c =
+    ap (λ (x : Committing). x.stop) (taken g (goal.at.returns-in-Some-clause-stop g c).In-Some)
 
 pub returns-in-Some-clause-taught : goal.returns-in-Some-clause-taught
 returns-in-Some-clause-taught g c =
     let learned = (goal.Predictor-dyn g c.args.predictor.now).known c.args.predictor.now.1 in
     subst (λ l. AreTaught learned (lessons_of l c.interrupt-step.new.self.pc) learned)
-    (ap (λ (x : Committing). x.steps) (taken g (goal.at.returns-in-Some-clause-taught g c).In-Some)) (none_taught learned)
+    (ap (λ (x : Committing). x.steps) (taken g (goal.at.returns-in-Some-clause-taught g c).In-Some))
+    (none_taught learned)
 
 -- a turn that ends the phase leaves what the definition leaves
 ends : (g : Over) (c : In-Ends g) →
@@ -79,7 +81,8 @@ returns-in-Ends-clause-taught g c =
     (ap (λ (x : Committing). x.steps) (ends g (goal.at.returns-in-Ends-clause-taught g c).In-Ends))
 
 -- all turns of the phase leave what the definition leaves
-turned : (g : Over) (c : After-loop g) → committing c.loop.self c.loop.invariant.0.steps ≡ commit set.contains c.args.self.now
+turned : (g : Over) (c : After-loop g) → committing c.loop.self c.loop.invariant.0.steps
+    ≡ commit set.contains c.args.self.now
 turned g c =
     committed_all c.args.self.now c.loop.self c.args.steps.now c.loop.steps c.loop.counter
     (c.self.inside.values.commit_width - c.loop.counter) c.loop.invariant.0 (omega (arith, c.loop-test.false))
@@ -123,10 +126,12 @@ overflow_add-code g c = interrupt_fits c.in-Some.code c.in-Some.ensures.code
 
 pub commit_head-requires-clause-retired : goal.commit_head-requires-clause-retired
 commit_head-requires-clause-retired g c =
-    let few : c.loop.counter < 8 = omega (arith, c.loop-test.true, c.self.invariant.sound.legal.pipeline.commit_width) in
+    let few : c.loop.counter < 8 =
+    omega (arith, c.loop-test.true, c.self.invariant.sound.legal.pipeline.commit_width) in
     few_retired c.loop.invariant.0 few c.requires.numbers
 
 pub commit_head-requires-clause-room : goal.commit_head-requires-clause-room
 commit_head-requires-clause-room g c =
-    let few : c.loop.counter < 8 = omega (arith, c.loop-test.true, c.self.invariant.sound.legal.pipeline.commit_width) in
+    let few : c.loop.counter < 8 =
+    omega (arith, c.loop-test.true, c.self.invariant.sound.legal.pipeline.commit_width) in
     has_room c.loop.invariant.0 few c.requires.room

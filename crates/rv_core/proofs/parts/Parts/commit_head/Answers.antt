@@ -32,7 +32,8 @@ serial_head-step-requires-clause-fresh g c =
 
 pub serial_head-step-requires-clause-serial : goal.serial_head-step-requires-clause-serial
 serial_head-step-requires-clause-serial g c =
-    of_head g (goal.at.serial_head-step-requires-clause-serial g c).After-is_stale (λ x. is_serialising x.instruction ≡ true)
+    of_head g (goal.at.serial_head-step-requires-clause-serial g c).After-is_stale
+    (λ x. is_serialising x.instruction ≡ true)
     (sym c.is_serialising.ensures ∙ c.if-is_serialising.true)
 
 pub finish_head-requires-clause-fresh : goal.finish_head-requires-clause-fresh
@@ -56,7 +57,8 @@ returns-then-waits_for_result-clause-turn g c =
     let at = (goal.at.returns-then-waits_for_result-clause-turn g c).After-is_stale in
     turn_ends c.args.self.now c.args.steps.now _ None (λ steps.
     turn_finishes c.args.self.now c.in-Some.head.now steps None (head g at) (stale g at ∙ c.if-is_stale.false)
-    (c.waits_for_result.ensures.role c.if-waits_for_result.true) (c.waits_for_result.ensures.unknown c.if-waits_for_result.true))
+    (c.waits_for_result.ensures.role c.if-waits_for_result.true)
+    (c.waits_for_result.ensures.unknown c.if-waits_for_result.true))
 
 pub returns-then-is_serialising-clause-turn : goal.returns-then-is_serialising-clause-turn
 returns-then-is_serialising-clause-turn g c =
@@ -68,7 +70,8 @@ returns-then-is_serialising-clause-turn g c =
           ∙ ended_as c.serial_head-step.new.self steps step
           ∙ ap (turn_left c.serial_head-step.new.self steps step) (sym c.end_with.ensures.end);
       taken = c.end_with.ensures.taken;
-      learns = learns_at _ _ step _ _ (ap (λ (x : Hardware). x.pc) c.self-then-is_serialising.view_is) c.end_with.ensures.taught;
+      learns = learns_at _ _ step _ _ (ap (λ (x : Hardware). x.pc) c.self-then-is_serialising.view_is)
+          c.end_with.ensures.taught;
     }
 
 pub returns-in_default-clause-turn : goal.returns-in_default-clause-turn

@@ -6,10 +6,15 @@ use Rattle.rv_core.proofs.parts.Parts.dispatch.Goals.{After-reason_for}
 
 -- a turn that ends the phase leaves what the definition leaves
 ended : (c : After-reason_for) →
-    record { hardware = c.dispatch_one.new.self; dispatched = c.loop-dispatched.dispatched; waits_for = Some c.in-Some.stall }
+    record {
+      hardware = c.dispatch_one.new.self;
+      dispatched = c.loop-dispatched.dispatched;
+      waits_for = Some c.in-Some.stall;
+    }
     ≡ dispatch c.args.self.now
 ended c =
-    turned-ends dispatch_turn (dispatch c.args.self.now) (c.self.inside.values.dispatch_width - c.loop-dispatched.dispatched)
+    turned-ends dispatch_turn (dispatch c.args.self.now) (c.self.inside.values.dispatch_width
+    - c.loop-dispatched.dispatched)
     (dispatching c.loop-dispatched.self c.loop-dispatched.dispatched) _
     (omega (arith, c.loop-dispatched-test.true)) c.loop-dispatched.invariant
     (c.dispatch_one.ensures c.loop-dispatched.dispatched
@@ -25,13 +30,15 @@ returns-in-Some-clause-dispatched c =
 
 pub returns-in-Some-clause-stall : goal.returns-in-Some-clause-stall
 returns-in-Some-clause-stall c =
-    c.reason_for.ensures c.dispatch_one.new.self ∙ ap stall_of (ended (goal.at.returns-in-Some-clause-stall c).After-reason_for)
+    c.reason_for.ensures c.dispatch_one.new.self
+    ∙ ap stall_of (ended (goal.at.returns-in-Some-clause-stall c).After-reason_for)
 
 pub loop-dispatched-preserved : goal.loop-dispatched-preserved
 loop-dispatched-preserved c =
     let goes = c.dispatch_one.ensures c.loop-dispatched.dispatched
     ∙ ap (λ r. dispatch_left r c.dispatch_one.new.self c.loop-dispatched.dispatched) c.in_default.is in
-    turned-goes dispatch_turn (dispatch c.args.self.now) (c.self.inside.values.dispatch_width - c.loop-dispatched.dispatched)
+    turned-goes dispatch_turn (dispatch c.args.self.now) (c.self.inside.values.dispatch_width
+    - c.loop-dispatched.dispatched)
     (c.self.inside.values.dispatch_width - (c.loop-dispatched.dispatched + 1))
     (dispatching c.loop-dispatched.self c.loop-dispatched.dispatched) _
     (omega (arith, c.loop-dispatched-test.true)) c.loop-dispatched.invariant goes

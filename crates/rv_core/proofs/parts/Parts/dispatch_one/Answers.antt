@@ -9,7 +9,8 @@ returns-in_default c = λ dispatched.
 
 pub returns-in-Some-reason_to_wait : goal.returns-in-Some-reason_to_wait
 returns-in-Some-reason_to_wait c = λ dispatched.
-    turn_waits c.self.inside c.args.self.now c.self.view_is c.in-Some.fetched.now c.in-Some-reason_to_wait.stall dispatched
+    turn_waits c.self.inside c.args.self.now c.self.view_is c.in-Some.fetched.now
+    c.in-Some-reason_to_wait.stall dispatched
     (sym c.in-Some.ensures) (sym c.reason_to_wait.ensures ∙ c.in-Some-reason_to_wait.is)
 
 pub invariant_of-self : goal.invariant_of-self
@@ -24,17 +25,22 @@ enter-requires-clause-kind c =
 
 pub enter-requires-clause-waits_not : goal.enter-requires-clause-waits_not
 enter-requires-clause-waits_not c =
-    waits_not_taken c.self.inside c.args.self.now c.self.view_is c.in-Some.fetched.now c.take-fetched.result c.take-fetched.new.self
+    waits_not_taken c.self.inside c.args.self.now c.self.view_is c.in-Some.fetched.now c.take-fetched.result
+    c.take-fetched.new.self
     (sym c.in-Some.ensures) c.take-fetched.ensures.first (sym c.reason_to_wait.ensures ∙ c.in_default-reason_to_wait.is)
 
 pub enter-requires-clause-decoded : goal.enter-requires-clause-decoded
 enter-requires-clause-decoded c =
-    decoded-first c.self.inside.front.entries c.take-fetched.result c.take-fetched.ensures.first c.self.invariant.sound.fetched
+    decoded-first c.self.inside.front.entries c.take-fetched.result c.take-fetched.ensures.first
+    c.self.invariant.sound.fetched
 
 pub returns : goal.returns
 returns c = λ dispatched.
-    turn_enters c.self.inside c.args.self.now c.self.view_is c.take-fetched.result c.take-fetched.new.self c.enter.new.self dispatched
+    turn_enters c.self.inside c.args.self.now c.self.view_is c.take-fetched.result c.take-fetched.new.self
+    c.enter.new.self dispatched
     c.take-fetched.ensures.first
-    (waits_not_taken c.self.inside c.args.self.now c.self.view_is c.in-Some.fetched.now c.take-fetched.result c.self.inside.front
-    (sym c.in-Some.ensures) c.take-fetched.ensures.first (sym c.reason_to_wait.ensures ∙ c.in_default-reason_to_wait.is))
+    (waits_not_taken c.self.inside c.args.self.now c.self.view_is c.in-Some.fetched.now
+    c.take-fetched.result c.self.inside.front
+    (sym c.in-Some.ensures) c.take-fetched.ensures.first (sym c.reason_to_wait.ensures
+    ∙ c.in_default-reason_to_wait.is))
     c.take-fetched.ensures.rest c.enter.ensures

@@ -13,16 +13,19 @@ sound {p = p} before =
     let h = hardware_of p in
     sound_with_cache before.sound before.sound.cache
     (kept_when_drained (λ (s : QueuedStore). IsRetiredStore h.values s.state) h.committed before.sound.stores.each)
-    (kept_when_drained (λ (s : QueuedStore). s.seq < h.rob.retired) h.committed before.sound.stores.older) before.sound.port
+    (kept_when_drained (λ (s : QueuedStore). s.seq < h.rob.retired) h.committed
+    before.sound.stores.older) before.sound.port
 
-queued : {p : Inside} {stores : Queue} → IsSound p → stores ≡ record p.stores { stores = without_drained p.stores.stores } →
+queued : {p : Inside} {stores : Queue} → IsSound p →
+    stores ≡ record p.stores { stores = without_drained p.stores.stores } →
     stores ≡ queue_of (next p)
 queued {p = p} before is =
     let h = hardware_of p in
     is
     ∙ ap (λ (q : Queue). record q { stores = without_drained q.stores }) before.tied.queued
     ∙ ap (λ l. record { stores = l; capacity = h.values.store_queue })
-    (without_drained_after h.committed (stores_of h.rob.retired h.rob.entries) (none_drains h.rob.retired h.rob.entries))
+    (without_drained_after h.committed (stores_of h.rob.retired h.rob.entries)
+    (none_drains h.rob.retired h.rob.entries))
 
 pub invariant_of-self : goal.invariant_of-self
 invariant_of-self c =

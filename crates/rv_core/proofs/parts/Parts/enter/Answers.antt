@@ -31,7 +31,8 @@ station-requires-clause-room c =
 pub station-requires-clause-youngest : goal.station-requires-clause-youngest
 station-requires-clause-youngest c =
     let h = hardware_of c.self.inside in
-    λ kind. rw (c.next_number-seq.ensures, c.self.invariant.tied.stationed) (stations-below h.values h.registers h.rob kind)
+    λ kind. rw (c.next_number-seq.ensures, c.self.invariant.tied.stationed)
+    (stations-below h.values h.registers h.rob kind)
 
 pub enter_store-requires : goal.enter_store-requires
 enter_store-requires c =
@@ -66,7 +67,8 @@ left-is : (c : After-push_entry) →
       rename = c.checkpoint_jump.new.rename;
       rob = c.push_entry.new.rob;
     }
-    ≡ entered_parts c.args.fetched.now c.self.invariant (waits_not c) c.requires.decoded c.define_target.ensures.in_range
+    ≡ entered_parts c.args.fetched.now c.self.invariant (waits_not c) c.requires.decoded
+    c.define_target.ensures.in_range
 left-is c =
     let p = c.self.inside in
     let f = c.args.fetched.now in
@@ -86,7 +88,8 @@ pub invariant_of-self : goal.invariant_of-self
 invariant_of-self c =
     let at = (goal.at.invariant_of-self c).After-push_entry in
     subst IsSound (sym (left-is at))
-    (entered-sound c.args.fetched.now c.self.invariant (waits_not at) c.requires.decoded c.define_target.ensures.in_range)
+    (entered-sound c.args.fetched.now c.self.invariant (waits_not at) c.requires.decoded
+    c.define_target.ensures.in_range)
 
 pub returns : goal.returns
 returns c =

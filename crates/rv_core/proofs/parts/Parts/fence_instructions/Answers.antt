@@ -32,7 +32,8 @@ returns-then-not-is_empty-clause-turn c steps =
           c.requires.head c.requires.fence
           c.is_empty.ensures.1 w.if-not-is_empty.true)
       | then-not-is_empty-via-else-not-is_empty+then-not-is_port_idle w ↦
-          fence_waits_for_port c.args.self.now c.args.entry.now steps (sym w.is_port_idle.ensures ∙ w.if-not-is_port_idle.true)
+          fence_waits_for_port c.args.self.now c.args.entry.now steps (sym w.is_port_idle.ensures
+          ∙ w.if-not-is_port_idle.true)
     ])
 
 pub returns-then-not-is_empty-clause-kept : goal.returns-then-not-is_empty-clause-kept
@@ -50,7 +51,8 @@ returns-then-write_back-gt0-clause-turn c = λ steps.
 pub returns-then-write_back-gt0-clause-kept : goal.returns-then-write_back-gt0-clause-kept
 returns-then-write_back-gt0-clause-kept c =
     let is = c.write_back.ensures.hardware in
-    kept_as c.args.self.now c.write_back.new.self (ap (λ (h : Hardware). h.values) is) (ap (λ (h : Hardware). h.cycle) is)
+    kept_as c.args.self.now c.write_back.new.self (ap (λ (h : Hardware). h.values) is)
+    (ap (λ (h : Hardware). h.cycle) is)
     (ap (λ (h : Hardware). h.rob) is)
 
 pub invariant_of-self : goal.invariant_of-self
@@ -64,4 +66,5 @@ returns-clause-kept c =
     let wrote = with_write_back before in
     kept_from before wrote c.serialise.new.self (kept_as before wrote refl refl refl) refl
     (kept_apart c.self-2.inside c.self-2.inside.csrs c.clear.new.self wrote c.serialise.new.self
-    (c.self-2.view_is ∙ c.write_back.ensures.hardware) (kept_serialising _ c.serialise.new.self _ _ c.serialise.ensures.hardware))
+    (c.self-2.view_is ∙ c.write_back.ensures.hardware)
+    (kept_serialising _ c.serialise.new.self _ _ c.serialise.ensures.hardware))

@@ -46,7 +46,8 @@ returns-in-Some-fault-clause-turn g c =
           ∙ ended_as c.trap-step.new.self steps step
           ∙ ap (turn_left c.trap-step.new.self steps step) (sym c.end_with.ensures.end);
       taken = c.end_with.ensures.taken;
-      learns = learns_at _ _ step _ _ (ap (λ (x : Hardware). x.pc) c.self-in-Some-fault.view_is) c.end_with.ensures.taught;
+      learns = learns_at _ _ step _ _ (ap (λ (x : Hardware). x.pc) c.self-in-Some-fault.view_is)
+          c.end_with.ensures.taught;
     }
 
 -- the step that is appended
@@ -77,7 +78,8 @@ returns-then-message-entry-clause-turn g c =
           (sym c.message_of.ensures ∙ c.in-Some-message_of.is)
           ∙ retires_on e m h steps c.in_default-fault.is c.if-message-entry.true
           ∙ sym (ap (λ x. turn_left x steps step turn.GoesOn) c.retire.ensures);
-      taken = subst (λ s. Takes c.args.steps.now c.take_row.new.self (s ∷ [])) (row g at.After-take_row) c.take_row.ensures;
+      taken = subst (λ s. Takes c.args.steps.now c.take_row.new.self (s ∷ []))
+          (row g at.After-take_row) c.take_row.ensures;
       learns = learns_at ((goal.Predictor-dyn g c.args.predictor.now).known c.args.predictor.now.1) _ step _ _
           (sym (ap (λ (x : Hardware). x.pc) c.retire.ensures))
           (rw (← c.unwrap_or.ensures) c.learn.ensures);
@@ -99,7 +101,8 @@ returns-clause-turn g c =
           (sym c.message_of.ensures ∙ c.in-Some-message_of.is)
           ∙ retires_last e m h steps c.in_default-fault.is c.if-message-entry.false
           ∙ sym (ap (λ x. turn_left x steps step (turn.Ends None)) flushed_is);
-      taken = subst (λ s. Takes c.args.steps.now c.take_row.new.self (s ∷ [])) (row g at.After-take_row) c.take_row.ensures;
+      taken = subst (λ s. Takes c.args.steps.now c.take_row.new.self (s ∷ []))
+          (row g at.After-take_row) c.take_row.ensures;
       learns = learns_at ((goal.Predictor-dyn g c.args.predictor.now).known c.args.predictor.now.1) _ step _ _
           (sym (ap (λ (x : Hardware). x.pc) flushed_is))
           (rw (← c.unwrap_or.ensures) c.learn.ensures);
@@ -111,7 +114,8 @@ returns-in_default-clause-turn g c =
     (ap (λ (h : Hardware). slice_get h.rob.entries 0) (sym c.self.view_is) ∙ sym c.in_default.ensures)
 
 pub returns-in-Some-fault-clause-kept : goal.returns-in-Some-fault-clause-kept
-returns-in-Some-fault-clause-kept g c = kept_trapped c.args.self.now c.trap-step.new.self _ _ c.trap-step.ensures.hardware
+returns-in-Some-fault-clause-kept g c =
+    kept_trapped c.args.self.now c.trap-step.new.self _ _ c.trap-step.ensures.hardware
 
 pub returns-then-message-entry-clause-kept : goal.returns-then-message-entry-clause-kept
 returns-then-message-entry-clause-kept g c =

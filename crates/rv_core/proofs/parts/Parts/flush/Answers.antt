@@ -22,7 +22,8 @@ squashed c = record {
 }
 
 same : (c : goal.After-redirect) →
-    record (hardware_of (left c)) { committed = (hardware_of c.self.inside).committed } ≡ flushed (hardware_of c.self.inside)
+    record (hardware_of (left c)) { committed = (hardware_of c.self.inside).committed }
+    ≡ flushed (hardware_of c.self.inside)
 same c =
     let rob = c.squash_all.ensures.rob ∙ emptied c.self.inside.rob in
     λ i. record (hardware_of c.self.inside) { rob = rob i; front = c.redirect.ensures i }

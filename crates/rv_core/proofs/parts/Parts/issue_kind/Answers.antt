@@ -24,7 +24,8 @@ loop-init c = (search rules, refl)
 pub loop-preserved : goal.loop-preserved
 loop-preserved c =
     let goes = sym c.issue_one.ensures.turn ∙ ap (λ o. turn_of (is_some o) c.issue_one.new.self) c.in-Some.is in (
-      turned-goes (issue_turn c.args.kind) (issue_kind c.args.kind c.args.self.now) (c.get.result.now.units - c.loop.counter)
+      turned-goes (issue_turn c.args.kind) (issue_kind c.args.kind c.args.self.now)
+          (c.get.result.now.units - c.loop.counter)
           (c.get.result.now.units - (c.loop.counter + 1)) c.loop.self c.issue_one.new.self
           (omega (arith, c.loop-test.true)) c.loop.invariant.0 goes,
       rw c.in-Some.is at c.issue_one.ensures.passed,

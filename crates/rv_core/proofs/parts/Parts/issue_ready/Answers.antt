@@ -32,7 +32,8 @@ accept-requires-clause-absent c =
     (ap ready_taken c.in-Some.is)
 
 -- what the execution gave
-abbrev executed : (c : After-start) → Execution (hardware_of c.self.inside) c.args.kind c.self.inside.stores c.in-Some.taken.ready
+abbrev executed : (c : After-start) →
+    Execution (hardware_of c.self.inside) c.args.kind c.self.inside.stores c.in-Some.taken.ready
 executed c =
     let p = c.self.inside in
     let path = path_of_ready p.cache p.stores c.in-Some.taken.ready in
@@ -63,7 +64,8 @@ returns-clause-turn c =
 
 pub returns-clause-passed : goal.returns-clause-passed
 returns-clause-passed c =
-    passed_after c.self.invariant c.self.view_is c.args.kind c.is_port_idle-port_idle.ensures c.take_ready.ensures.oldest
+    passed_after c.self.invariant c.self.view_is c.args.kind c.is_port_idle-port_idle.ensures
+    c.take_ready.ensures.oldest
     (ap ready_taken c.in-Some.is) (executed (goal.at.returns-clause-passed c).After-start)
     c.hold_unit.ensures c.start.ensures c.take_ready.ensures.others c.accept.ensures
     c.in-Some.taken.passed (rw c.in-Some.is at c.take_ready.ensures.passed)

@@ -47,7 +47,8 @@ stale : (c : After-default) →
     ≡ record { base = c.values-values.result.ram_base; size = c.values-values.result.ram_size; words = empty }
 stale c = IfOk-at_ok _ (memory c).2 c.new-2.ensures.fresh
 
-stores : (c : After-default) → c.in_ok-front.stores ≡ record { stores = []; capacity = c.args.description.now.store_queue }
+stores : (c : After-default) →
+    c.in_ok-front.stores ≡ record { stores = []; capacity = c.args.description.now.store_queue }
 stores c = IfOk-at_ok _ (buffers c).2 c.new-5.ensures
 
 -- the parts stand for the hardware at reset

@@ -16,7 +16,8 @@ queue : (c : After-waits_for_queue) →
     (is_store c.args.fetched.now.instruction && nat_le c.self.inside.values.store_queue
     (length (stores_after (hardware_of c.self.inside) c.self.inside.rob.entries))) ≡ c.waits_for_queue.result
 queue c = sym (c.waits_for_queue.ensures
-    ∙ ap (λ q. is_store c.args.fetched.now.instruction && nat_le q.capacity (length q.stores)) c.self.invariant.tied.queued)
+    ∙ ap (λ q. is_store c.args.fetched.now.instruction && nat_le q.capacity (length q.stores))
+    c.self.invariant.tied.queued)
 
 pub returns-then-are_full_for : goal.returns-then-are_full_for
 returns-then-are_full_for c =
@@ -32,7 +33,8 @@ returns-then-waits_for_queue c =
     rw (← c.self.view_is) (sym
     (reason-is (hardware_of c.self.inside) c.args.fetched.now false false false true
     (sym c.is_serial.ensures ∙ c.if-is_serial.false) (sym c.is_full.ensures.full ∙ c.if-is_full.false)
-    (station at.After-are_full_for ∙ c.if-are_full_for.false) (queue at.After-waits_for_queue ∙ c.if-waits_for_queue.true)))
+    (station at.After-are_full_for ∙ c.if-are_full_for.false) (queue at.After-waits_for_queue
+    ∙ c.if-waits_for_queue.true)))
 
 pub returns : goal.returns
 returns c =
@@ -40,4 +42,5 @@ returns c =
     rw (← c.self.view_is) (sym
     (reason-is (hardware_of c.self.inside) c.args.fetched.now false false false false
     (sym c.is_serial.ensures ∙ c.if-is_serial.false) (sym c.is_full.ensures.full ∙ c.if-is_full.false)
-    (station at.After-are_full_for ∙ c.if-are_full_for.false) (queue at.After-waits_for_queue ∙ c.if-waits_for_queue.false)))
+    (station at.After-are_full_for ∙ c.if-are_full_for.false) (queue at.After-waits_for_queue
+    ∙ c.if-waits_for_queue.false)))

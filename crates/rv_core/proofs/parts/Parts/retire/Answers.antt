@@ -19,7 +19,8 @@ legal {p = p} {e = e} {m = m} sound view is known faultless =
 
 pub commit_store-requires : goal.commit_store-requires
 commit_store-requires c =
-    write_is_covered c.self.inside.values c.self.inside.stale (is_store c.args.entry.now.instruction) c.args.message.now.store
+    write_is_covered c.self.inside.values c.self.inside.stale (is_store c.args.entry.now.instruction)
+    c.args.message.now.store
     (legal c.self.invariant c.self.view_is c.requires.head c.requires.known c.requires.sound)
     c.self.invariant.stale_base c.self.invariant.stale_size
 
@@ -77,7 +78,8 @@ same c =
     ∙ ap (λ (o : Option ℕ). registers_with
     (option_map (λ (register : ℕ).
     (register, c.args.message.now.value)) o) c.self.inside.registers) c.requires.target
-    ∙ target_written c.self.inside.registers (target_of_word c.args.entry.now.instruction) c.args.message.now (target c) in
+    ∙ target_written c.self.inside.registers (target_of_word c.args.entry.now.instruction)
+    c.args.message.now (target c) in
     λ i. record (next c) {
       registers = registers i;
       stale = (c.commit_store.ensures.stale i).words;
@@ -92,4 +94,5 @@ invariant_of-self c =
 
 pub returns : goal.returns
 returns c =
-    closed-is (left c) (next c) (same c) (tied c) (sound c) ∙ ap (with_result c.args.entry.now c.args.message.now) c.self.view_is
+    closed-is (left c) (next c) (same c) (tied c) (sound c)
+    ∙ ap (with_result c.args.entry.now c.args.message.now) c.self.view_is

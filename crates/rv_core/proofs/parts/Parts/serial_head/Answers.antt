@@ -31,7 +31,8 @@ pub returns-in-CsrAccess-clause-turn : goal.returns-in-CsrAccess-clause-turn
 returns-in-CsrAccess-clause-turn c steps =
     let at = goal.at.returns-in-CsrAccess-clause-turn c in
     turn at.After-role_of (head at.In-Some) steps
-    ∙ turn_accesses c.in-Some.head.now c.in-Some.head.now.instruction c.in-CsrAccess.access (committing c.args.self.now steps)
+    ∙ turn_accesses c.in-Some.head.now c.in-Some.head.now.instruction c.in-CsrAccess.access
+    (committing c.args.self.now steps)
     (sym (c.role_of.ensures ∙ ap role_of c.instruction.ensures) ∙ c.in-CsrAccess.is)
     ∙ c.access_csr.ensures.turn steps
 

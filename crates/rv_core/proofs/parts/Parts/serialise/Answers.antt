@@ -19,7 +19,11 @@ left c = record c.self.inside {
 
 -- the hardware before the squash
 abbrev next : goal.After-redirect → Hardware → Hardware
-next c h = record h { pc = c.args.next; registers = registers_with c.args.written h.registers; rob = head_retired h.rob }
+next c h = record h {
+  pc = c.args.next;
+  registers = registers_with c.args.written h.registers;
+  rob = head_retired h.rob;
+}
 
 squashed : (c : goal.After-redirect) → AreSquashed c.self.inside (left c)
 squashed c = record {
@@ -33,7 +37,8 @@ sound : (c : goal.After-redirect) → IsSoundHardware (next c (hardware_of c.sel
 sound c =
     let head = subst (λ (x : Hardware). IsHead x c.args.entry.now) (sym c.self.view_is) c.requires.head in
     let room = subst (λ (x : Hardware). x.rob.retired < 8 * x.cycle + 8) (sym c.self.view_is) c.requires.room in
-    sound_after_serial (hardware_of c.self.inside) c.args.entry.now head.0 c.args.next c.args.written c.self.invariant.sound
+    sound_after_serial (hardware_of c.self.inside) c.args.entry.now head.0 c.args.next c.args.written
+    c.self.invariant.sound
     head.1 room
 
 same : (c : goal.After-redirect) →
@@ -51,7 +56,8 @@ same c =
 pub invariant_of-self : goal.invariant_of-self
 invariant_of-self c =
     let p = c.self.inside in
-    squashed-sound p (left c) c.self.invariant c.args.next (registers_with c.args.written p.registers) (head_retired p.rob)
+    squashed-sound p (left c) c.self.invariant c.args.next
+    (registers_with c.args.written p.registers) (head_retired p.rob)
     (squashed c) (sound c) (same c) c.self.invariant.stale_base
     c.self.invariant.stale_size
 

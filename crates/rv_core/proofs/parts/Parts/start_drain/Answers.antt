@@ -31,7 +31,8 @@ returns-then-not-can_drain c =
 is_access : {p : Inside} (access : StoreAccess) → IsSound p → oldest_to_drain p.stores.stores ≡ Some access →
     IsAccess p.cache access.address (length access.bytes)
 is_access {p = p} access before is =
-    let legal = oldest_is_legal p.values (hardware_of p).committed access before.sound.stores.each (sym (oldest before) ∙ is) in (
+    let legal = oldest_is_legal p.values (hardware_of p).committed access before.sound.stores.each
+    (sym (oldest before) ∙ is) in (
       legal.aligned,
       (
         omega (arith, before.sound.cache.base, legal.from_base),
@@ -41,7 +42,8 @@ is_access {p = p} access before is =
 
 pub write-cost-requires : goal.write-cost-requires
 write-cost-requires c = record {
-  access = subst (λ l. IsAccess c.self.inside.cache c.start_drain-access.result.address (length l)) (sym c.as_slice.ensures.bytes)
+  access = subst (λ l. IsAccess c.self.inside.cache c.start_drain-access.result.address (length l))
+      (sym c.as_slice.ensures.bytes)
       (is_access c.start_drain-access.result c.self.invariant c.start_drain-access.ensures.access);
 }
 
@@ -53,7 +55,8 @@ is_oldest before is = sym (oldest before) ∙ is
 abbrev draining : Inside → List QueuedStore
 draining p = with_oldest_draining (hardware_of p).committed
 
-queued : {p : Inside} {stores : Queue} {access : StoreAccess} → IsSound p → oldest_to_drain p.stores.stores ≡ Some access →
+queued : {p : Inside} {stores : Queue} {access : StoreAccess} → IsSound p →
+    oldest_to_drain p.stores.stores ≡ Some access →
     stores ≡ record p.stores { stores = with_oldest_draining p.stores.stores } →
     stores ≡ queue_of (record (hardware_of p) { committed = draining p })
 queued {p = p} {access = access} before is left =
@@ -91,7 +94,8 @@ invariant_of-self c =
 
 -- the access is the definition's
 accessed : (c : goal.After-self-1) →
-    with_cache c.write-cost.new.self (draining c.self.inside) (c.self.inside.cycle + c.from.result) (hardware_of c.self.inside)
+    with_cache c.write-cost.new.self (draining c.self.inside) (c.self.inside.cycle + c.from.result)
+    (hardware_of c.self.inside)
     ≡ with_drained c.start_drain-access.result (hardware_of c.self.inside)
 accessed c =
     let p = c.self.inside in

@@ -44,10 +44,12 @@ if_due (Some code) taken = taken code refl
 pub returns-clause-due_interrupt : goal.returns-clause-due_interrupt
 returns-clause-due_interrupt g c counted =
     if_due (due c.args.self.now.csrs c.args.lines)
-    (λ code. due_interrupt_is_taken c.args.lines c.args.self.now c.next_cycle.new.self (report_of_cycle c.next_cycle.result) code
+    (λ code. due_interrupt_is_taken c.args.lines c.args.self.now c.next_cycle.new.self
+    (report_of_cycle c.next_cycle.result) code
     (any_cycle c.next_cycle.ensures.cycled.cycle))
 
-stalls_where : (none_dispatched : Bool) (stall : Option Stall) → IsCounted none_dispatched stall → is_some stall ≡ none_dispatched
+stalls_where : (none_dispatched : Bool) (stall : Option Stall) → IsCounted none_dispatched stall →
+    is_some stall ≡ none_dispatched
 stalls_where true (Some reason) counted = refl
 stalls_where false None counted = refl
 stalls_where _ _ counted = absurd counted

@@ -20,13 +20,15 @@ returns-clause-cycled g c =
     let listed : c.listed.result.items ≡ done.0 =
     c.listed.ensures ∙ c.as_slice.ensures
     ∙ listed_anew done.1 (c.clear.ensures.kept ∙ c.self.invariant.lists) c.clear.ensures.none in
-    cycle_with (ap (λ steps. report_with steps end) (sym listed)) (cycle_from (c.deref_mut.ensures.value ∙ c.self.view_is) done.3)
+    cycle_with (ap (λ steps. report_with steps end) (sym listed))
+    (cycle_from (c.deref_mut.ensures.value ∙ c.self.view_is) done.3)
 
 pub listed-requires : goal.listed-requires
 listed-requires g c =
     let done = c.advance-end.ensures.cycle in
     subst (λ l. length l ≤ 8)
-    (sym (c.as_slice.ensures ∙ listed_anew done.1 (c.clear.ensures.kept ∙ c.self.invariant.lists) c.clear.ensures.none)) done.2
+    (sym (c.as_slice.ensures ∙ listed_anew done.1 (c.clear.ensures.kept ∙ c.self.invariant.lists) c.clear.ensures.none))
+    done.2
 
 pub advance-end-requires-clause-room : goal.advance-end-requires-clause-room
 advance-end-requires-clause-room g c = c.clear.ensures.room (omega (arith, c.self.invariant.has_room))

@@ -10,7 +10,14 @@ add-requires t c =
     let later : List Passage = take (length c.args.rows.now - 1) (drop 1 c.args.rows.now) in
     let rest : List Passage = filter has_left later in
     let few = filter-le has_left later in
-    let room = room-fewer c.args.self.now (length c.args.rows.now) (length rest + 1) (omega (arith, c.in-len1-up.len_at_least, length-drop 1 c.args.rows.now, take-shorter (length c.args.rows.now - 1) (drop 1 c.args.rows.now), few)) c.requires.room in
+    let room = room-fewer c.args.self.now (length c.args.rows.now) (length rest + 1)
+    (omega (
+      arith,
+      c.in-len1-up.len_at_least,
+      length-drop 1 c.args.rows.now,
+      take-shorter (length c.args.rows.now - 1) (drop 1 c.args.rows.now),
+      few,
+    )) c.requires.room in
     record {
       room = room-passages c.args.self.now.costs rest c.args.self.now c.add_left.new.self 1 room
           c.add_left.ensures.words c.add_left.ensures.capacity;

@@ -38,7 +38,8 @@ returns c =
     let stays_first = stays_of_first cycle unit c.args.hardware.now rows first end first_are before.stays in
     let oldest_first = oldest_of_first cycle unit c.args.hardware.now rows first end first_are in
     let left = left_same rows kept up in
-    let free = c.free-has_unit.ensures ∙ ap (λ (units : PerKind Pool). is_free c.args.cycle (at_kind Mem units)) c.units.ensures in
+    let free = c.free-has_unit.ensures
+    ∙ ap (λ (units : PerKind Pool). is_free c.args.cycle (at_kind Mem units)) c.units.ensures in
     let stays =
     c.add_stays.ensures.stays ∙ stays_first
     ∙ ap (λ free. with_stays (stays_among cycle free true rows) before.stays) free in
@@ -63,10 +64,12 @@ returns c =
       drains = c.add_drain.ensures i;
       last_stores = c.note_stores.ensures.last i;
       heads = heads i;
-      idle = (c.idle_with-self.ensures ∙ ap (λ account. one_more (is_idle account) before.idle) c.accounts_of-account.ensures.account) i;
+      idle = (c.idle_with-self.ensures ∙ ap (λ account. one_more (is_idle account) before.idle)
+          c.accounts_of-account.ensures.account) i;
       flusher = c.accounts_of-account.ensures.flusher i;
       branches = (c.add_left.ensures.branches ∙ noted_same (word_in Branch) no_branch rows kept before.branches up) i;
-      mispredicted = (c.add_left.ensures.mispredicted ∙ noted_same (word_in Mispredicted) no_mispredicted rows kept before.mispredicted up) i;
+      mispredicted = (c.add_left.ensures.mispredicted ∙ noted_same (word_in Mispredicted) no_mispredicted rows kept
+          before.mispredicted up) i;
       outcomes = (c.add_left.ensures.outcomes ∙ ap (λ l. with_passages before.costs l before.outcomes) left) i;
       waiting = (c.drain-drained.ensures.waiting ∙ ap (still_waiting c.args.drain) c.note_stores.ensures.waiting) i;
       stores = (c.add-3.ensures ∙ ap (λ one. with_drained before.costs one before.stores) drained) i;

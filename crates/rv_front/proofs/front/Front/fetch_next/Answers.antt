@@ -10,7 +10,8 @@ invariant_of-self g c =
     let fetched = c.fetch_word-fetched.result in
     let pushed : c.append.new.ring.items ≡ items ++ fetched ∷ [] = ap (λ b. b.items) c.append.ensures in
     let Linked : List Fetched → Type 0 = λ es. IsLinked es fetched.predicted in
-    subst Linked (sym pushed) (IsLinked-push items fetched c.self.inside.next_pc c.fetch_word-fetched.ensures.pc_is c.self.invariant)
+    subst Linked (sym pushed)
+    (IsLinked-push items fetched c.self.inside.next_pc c.fetch_word-fetched.ensures.pc_is c.self.invariant)
 
 pub returns-clause-chain : goal.returns-clause-chain
 returns-clause-chain g c = invariant_of-self g c

@@ -14,7 +14,8 @@ returns c =
     let count = c.count_until-count.result in
     let split = c.count_until-count.ensures in
     let full : count / BLOCK < BLOCKS = omega (arith, split.within, ap length same, c.self.invariant.0.count) in
-    let levels : get_or c.self.inside.levels (count / BLOCK) no_lines ≡ fold line_set no_lines (take (count / BLOCK * BLOCK) c.as_slice-items.result.now) =
+    let levels : get_or c.self.inside.levels (count / BLOCK) no_lines
+    ≡ fold line_set no_lines (take (count / BLOCK * BLOCK) c.as_slice-items.result.now) =
     rw same (c.self.invariant.1 (count / BLOCK) no_lines full) in
     let whole : count / BLOCK * BLOCK ≤ count = omega arith in
     rw (c.lines_after.ensures, ← c.self.view_is, ← same)

@@ -12,13 +12,16 @@ returns-then-self-clause-cleared c =
     rw (← c.self.view_is, wiped, words_of-none, length-replicate) (cc (c.self.inside.marked.ok.0))
 
 pub returns-then-self-clause-covered : goal.returns-then-self-clause-covered
-returns-then-self-clause-covered c = none_are_covered _ (ap (λ (v : StaleWords). v.words) (returns-then-self-clause-cleared c))
+returns-then-self-clause-covered c =
+    none_are_covered _ (ap (λ (v : StaleWords). v.words) (returns-then-self-clause-cleared c))
 
 -- no word was marked in the round that begins
 pub returns-clause-cleared : goal.returns-clause-cleared
 returns-clause-cleared c =
     let s = c.self.inside in
-    let fresh = words_of-later (s.base / 4) (s.round + 1) s.marked.items (All-weaker (λ r. r ≤ s.round) (λ r. r < s.round + 1) (λ r at_most. omega arith) s.marked.items c.self.invariant.3) in
+    let fresh = words_of-later (s.base / 4) (s.round + 1) s.marked.items
+    (All-weaker (λ r. r ≤ s.round) (λ r. r < s.round + 1) (λ r at_most. omega arith) s.marked.items
+    c.self.invariant.3) in
     rw (← c.self.view_is, fresh)
 
 pub returns-clause-covered : goal.returns-clause-covered

@@ -7,7 +7,8 @@ use Rattle.rv_memory.proofs.stale.StaleMap.is_stale.Goals as goal
 pub returns-then-address-self-clause-stale : goal.returns-then-address-self-clause-stale
 returns-then-address-self-clause-stale c =
     let s = c.self.inside in
-    rw (← c.self.view_is) (sym (contains_word_below (s.base / 4) s.round s.marked.items (c.args.address / 4) (omega arith)))
+    rw (← c.self.view_is) (sym
+    (contains_word_below (s.base / 4) s.round s.marked.items (c.args.address / 4) (omega arith)))
 
 pub returns-then-word-len-clause-stale : goal.returns-then-word-len-clause-stale
 returns-then-word-len-clause-stale c =

@@ -5,7 +5,8 @@ use Rattle.rv_memory.specs.Bytes.{overwritten}
 use Rattle.rv_parts_tests.proofs.halves.HalvesBacking.write_block.Goals as goal
 
 -- one more byte of a block
-set-overwritten : (xs ys : List ℕ) (at i : ℕ) → at + length ys ≤ length xs → i < length ys → set (overwritten xs at (take i ys)) (at + i) (get_or ys i 0) ≡ overwritten xs at (take (i + 1) ys)
+set-overwritten : (xs ys : List ℕ) (at i : ℕ) → at + length ys ≤ length xs → i < length ys →
+    set (overwritten xs at (take i ys)) (at + i) (get_or ys i 0) ≡ overwritten xs at (take (i + 1) ys)
 set-overwritten xs ys at i fits within =
     let y = get_or ys i 0 in
     let front = take at xs in
@@ -27,11 +28,14 @@ set-overwritten xs ys at i fits within =
     ∙ sym (append_assoc front part (y ∷ rest))
     in
     ap (λ (ls : List ℕ). set ls (at + i) y) before
-    ∙ set_at (front ++ part) (get_or xs (at + i) 0) rest y (at + i) (omega (arith, length-append front part, length_front, length_part))
+    ∙ set_at (front ++ part) (get_or xs (at + i) 0) rest y (at + i)
+    (omega (arith, length-append front part, length_front, length_part))
     ∙ sym after
 
 pub loop-i-preserved : goal.loop-i-preserved
 loop-i-preserved c =
     c.put.ensures
-    ∙ ap (λ (ls : List ℕ). set ls (c.args.offset + c.loop-i.i) (get_or c.args.block.now c.loop-i.i 0)) c.loop-i.invariant
-    ∙ set-overwritten (c.args.self.now.low.items ++ c.args.self.now.high.items) c.args.block.now c.args.offset c.loop-i.i c.requires (omega arith)
+    ∙ ap (λ (ls : List ℕ). set ls (c.args.offset + c.loop-i.i)
+    (get_or c.args.block.now c.loop-i.i 0)) c.loop-i.invariant
+    ∙ set-overwritten (c.args.self.now.low.items ++ c.args.self.now.high.items) c.args.block.now c.args.offset
+    c.loop-i.i c.requires (omega arith)

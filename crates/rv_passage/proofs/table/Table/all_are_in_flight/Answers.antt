@@ -6,4 +6,5 @@ pub returns-then-rows-self : goal.returns-then-rows-self
 returns-then-rows-self c =
     let all = c.args.self.now in
     let as_many = c.if-rows-self.true in
-    eq-eqb _ _ as_many ∙ sym (all-open (drop all.dropped all.rows.items) (omega (arith, ap length c.rows.ensures, as_many, all.known)))
+    eq-eqb _ _ as_many ∙ sym
+    (all-open (drop all.dropped all.rows.items) (omega (arith, ap length c.rows.ensures, as_many, all.known)))

@@ -15,9 +15,16 @@ loop-place-preserved c =
           let here = found.2 in
           let left = ap length (drop-at now place found.0 here) in
           record {
-            appended = fetched-more now place found.0 old (passages_of c.append_at.new.self) here (c.append_at.ensures.appended found.0 here)
+            appended = fetched-more now place found.0 old (passages_of c.append_at.new.self) here
+                (c.append_at.ensures.appended found.0 here)
                 ∙ c.loop-place.invariant.appended;
-            room = omega (arith, left, c.append_at.ensures.len, c.append_at.ensures.capacity, c.loop-place.invariant.room);
+            room = omega (
+              arith,
+              left,
+              c.append_at.ensures.len,
+              c.append_at.ensures.capacity,
+              c.loop-place.invariant.room,
+            );
             capacity = omega (arith, c.append_at.ensures.capacity, c.loop-place.invariant.capacity);
             interrupts = c.append_at.ensures.interrupts ∙ c.loop-place.invariant.interrupts;
           }

@@ -8,7 +8,8 @@ abbrev pub invariant-loop-place : goal.invariant-loop-place
 invariant-loop-place l =
     let now = in_buffers l.rob l.front in
     record {
-      appended : with_fetched (drop l.place now) (passages_of l.self) ≡ with_fetched (drop l.fn.from now) (passages_of l.fn.self);
+      appended : with_fetched (drop l.place now) (passages_of l.self)
+          ≡ with_fetched (drop l.fn.from now) (passages_of l.fn.self);
       room : length l.self.rows.items + length (drop l.place now) ≤ vec_capacity l.self.rows;
       capacity : vec_capacity l.self.rows ≡ vec_capacity l.fn.self.rows;
       interrupts : l.self.interrupts ≡ l.fn.self.interrupts;

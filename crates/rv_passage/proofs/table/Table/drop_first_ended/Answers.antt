@@ -10,7 +10,16 @@ overflow_add-self c =
     let all = c.args.self.now in
     let kept = drop all.dropped all.rows.items in
     let first = c.count_first_ended.ensures ∙ ap (position_or_len is_in_flight) c.rows.ensures in
-    omega (arith, first, first-within kept, length-drop all.dropped all.rows.items, all.within, all.rows.ok.0, all.rows.ok.1, all.rows.small)
+    omega (
+      arith,
+      first,
+      first-within kept,
+      length-drop all.dropped all.rows.items,
+      all.within,
+      all.rows.ok.0,
+      all.rows.ok.1,
+      all.rows.small,
+    )
 
 pub invariant_of-self : goal.invariant_of-self
 invariant_of-self c =

@@ -12,7 +12,8 @@ counted c =
     let now = in_buffers c.args.rob.now c.args.front.now in
     let ended = with_steps c.args.steps.now c.args.pc (passages_of c.clear_space.new.self) in
     let opened = ap (λ (t : Passages). length (filter is_in_flight t.rows)) c.follow_in_space.ensures.followed in
-    let many = as_many-moves (moves_on c.args.cycle ended.fetched [] ended.rows now) (buffers-open c.args.rob.now c.args.front.now) in
+    let many = as_many-moves (moves_on c.args.cycle ended.fetched [] ended.rows now)
+    (buffers-open c.args.rob.now c.args.front.now) in
     omega (arith, opened, many, c.count_in_flight-self.ensures.count)
 
 pub invariant_of-self-clause-known : goal.invariant_of-self-clause-known

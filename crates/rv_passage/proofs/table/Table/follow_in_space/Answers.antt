@@ -37,7 +37,14 @@ returns c =
       followed = whole;
       rows = omega arith;
       interrupts = ap (λ (v : Vec ℕ Global). vec_capacity v) interrupts ∙ c.take_steps.ensures.interrupts;
-      fetched = omega (arith, fetched, taken_fetched, within.fetched, length-drop moved.result now, c.append_fetched.ensures.few);
+      fetched = omega (
+        arith,
+        fetched,
+        taken_fetched,
+        within.fetched,
+        length-drop moved.result now,
+        c.append_fetched.ensures.few,
+      );
       retired = omega (arith, retired, within.retired, c.requires.few);
       few = omega (arith, opened, few, c.append_fetched.ensures.few);
     }

@@ -19,7 +19,8 @@ counted c =
     let after = (after_steps c.args.cycle c.args.steps.now c.args.rob.now c.args.front.now c.args.pc old).rows in
     let number = λ (p : Passage). p.number in
     let known = ap (λ (n : Numbers). length n.in_flight) c.renew_numbers.ensures.followed in
-    let many = as_many-moves (moves_on c.args.cycle ended.fetched [] ended.rows now) (buffers-open c.args.rob.now c.args.front.now) in
+    let many = as_many-moves (moves_on c.args.cycle ended.fetched [] ended.rows now)
+    (buffers-open c.args.rob.now c.args.front.now) in
     omega (
       arith,
       known,

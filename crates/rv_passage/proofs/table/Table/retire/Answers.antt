@@ -15,4 +15,10 @@ invariant_of-self-clause-known c =
     let rows =
     ap (λ (l : List Passage). count (drop all.dropped l)) items ∙ ap count c.retire_kept.ensures
     ∙ ap (λ (l : List Passage). count (with_oldest change (drop all.dropped l))) c.as_mut_slice.ensures.value in
-    omega (arith, rows, open-with_oldest change (drop all.dropped all.rows.items), all.known, c.saturating_sub-self.ensures)
+    omega (
+      arith,
+      rows,
+      open-with_oldest change (drop all.dropped all.rows.items),
+      all.known,
+      c.saturating_sub-self.ensures,
+    )

@@ -8,7 +8,8 @@ pub loop-place-preserved : goal.loop-place-preserved
 loop-place-preserved c =
     let steps = c.args.steps.now in
     let next = first_pc (drop (c.loop-place.place + 1) steps) c.args.next in
-    let taken = c.take_step.ensures.taken ∙ ap (λ n. with_step c.index-steps-place.result n (passages_of c.loop-place.self)) c.first_pc.ensures in
+    let taken = c.take_step.ensures.taken
+    ∙ ap (λ n. with_step c.index-steps-place.result n (passages_of c.loop-place.self)) c.first_pc.ensures in
     let within = step-within c.index-steps-place.result next (passages_of c.loop-place.self) in
     let retired = ap (λ (t : Passages). t.retired) taken in
     let noted = ap (λ (t : Passages). length t.interrupts) taken in

@@ -25,7 +25,12 @@ follow-requires-2-clause-fits g c =
 pub returns-clause-seen : goal.returns-clause-seen
 returns-clause-seen g c start seen next on =
     let old = c.args.self.now in
-    let new : Marker = record { path = c.follow.new.self; numbering = c.follow-2.new.self; from = old.from; cycles = c.args.cycle.now.progress.now.cycles } in
+    let new : Marker = record {
+      path = c.follow.new.self;
+      numbering = c.follow-2.new.self;
+      from = old.from;
+      cycles = c.args.cycle.now.progress.now.cycles;
+    } in
     let followed = c.follow.ensures in
     let numbered = c.follow-2.ensures in
     let is = c.read_cycle.ensures in
@@ -33,7 +38,8 @@ returns-clause-seen g c start seen next on =
     subst (λ (one : CycleRead). IsFollowed (made_shown one (known_of_path old.path [])) old.path.window
     c.follow.new.self.window) is followed.made in (
       marking_on next old new on.0 refl refl
-          (pathing_on next (cycle_of c.read_cycle.result) old.path c.follow.new.self is on.0.path followed.known followed.made)
+          (pathing_on next (cycle_of c.read_cycle.result) old.path c.follow.new.self is on.0.path
+          followed.known followed.made)
           made numbered.followed numbered.begun,
       on.1,
     )

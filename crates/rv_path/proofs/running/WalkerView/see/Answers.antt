@@ -16,7 +16,8 @@ follow-requires g c =
 
 pub returns-clause-seen : goal.returns-clause-seen
 returns-clause-seen g c start seen next on =
-    pathing_on next (cycle_of c.read_cycle.result) _ c.follow.new.self c.read_cycle.ensures on c.follow.ensures.known c.follow.ensures.made
+    pathing_on next (cycle_of c.read_cycle.result) _ c.follow.new.self c.read_cycle.ensures on
+    c.follow.ensures.known c.follow.ensures.made
 
 pub returns-clause-said : goal.returns-clause-said
 returns-clause-said g c start seen next on = ([], says_nothing _, refl)

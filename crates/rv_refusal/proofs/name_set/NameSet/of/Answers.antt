@@ -12,7 +12,8 @@ pub returns : goal.returns
 returns c =
     let finished = drop_all c.loop-name.name-index c.args.names.now (omega (arith, c.loop-name-test.false)) in
     let none_left : (other : List ℕ) → (holds c.loop-name.set other
-    || is_one_of (map (λ name. name.now) (drop c.loop-name.name-index c.args.names.now)) other) ≡ holds c.loop-name.set other =
+    || is_one_of (map (λ name. name.now) (drop c.loop-name.name-index c.args.names.now)) other)
+    ≡ holds c.loop-name.set other =
     λ other. ap (λ left. holds c.loop-name.set other || is_one_of (map (λ name. name.now) left) other) finished
     ∙ or-false (holds c.loop-name.set other) in
     λ i other. (sym (none_left other) ∙ c.loop-name.invariant other) i

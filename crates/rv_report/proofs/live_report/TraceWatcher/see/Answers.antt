@@ -9,5 +9,6 @@ count_all-requires g c =
 
 pub returns : goal.returns
 returns g c start seen before shown traced =
-    let more = says_extends c.after-out.ensures.failed c.after-out.ensures.known c.has_failed-self.ensures (search rules) c.say_trace.ensures in
+    let more = says_extends c.after-out.ensures.failed c.after-out.ensures.known c.has_failed-self.ensures
+    (search rules) c.say_trace.ensures in
     traced_on shown traced c.count_all.new.self _ _ c.count_all.ensures (more.extends _ _ traced.trace)

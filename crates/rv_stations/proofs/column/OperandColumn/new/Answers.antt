@@ -11,7 +11,8 @@ use Rattle.rv_stations.proofs.column.OperandColumn.new.Goals as goal
 
 pub returns : goal.returns
 returns c =
-    ap₂ (zip2 operand_of) (c.in_ok-vec.ensures.items_if_clones_equal (λ y e. e)) (c.in_ok-vec-2.ensures.items_if_clones_equal (λ y e. e))
+    ap₂ (zip2 operand_of) (c.in_ok-vec.ensures.items_if_clones_equal (λ y e. e))
+    (c.in_ok-vec-2.ensures.items_if_clones_equal (λ y e. e))
     ∙ zip2-replicate operand_of c.args.len 18446744073709551615 0
 
 pub invariant_of-result : goal.invariant_of-result
@@ -20,10 +21,13 @@ invariant_of-result c = record {
   few = omega (arith, c.in_ok-vec.ensures.len, c.requires.few);
   eights = rw c.in_ok-vec.ensures.len c.requires.eights;
   marked = λ place within.
-      let same : zip2 operand_of c.in_ok-vec.field-0.items c.in_ok-vec-2.field-0.items ≡ replicate c.args.len (Value 0) =
-      ap₂ (zip2 operand_of) (c.in_ok-vec.ensures.items_if_clones_equal (λ y e. e)) (c.in_ok-vec-2.ensures.items_if_clones_equal (λ y e. e))
+      let same : zip2 operand_of c.in_ok-vec.field-0.items c.in_ok-vec-2.field-0.items
+      ≡ replicate c.args.len (Value 0) =
+      ap₂ (zip2 operand_of) (c.in_ok-vec.ensures.items_if_clones_equal (λ y e. e))
+      (c.in_ok-vec-2.ensures.items_if_clones_equal (λ y e. e))
       ∙ zip2-replicate operand_of c.args.len 18446744073709551615 0 in
-      let low : place < c.args.len = omega (arith, within, ap (λ l. length l) same, length-replicate c.args.len (Value 0)) in
+      let low : place < c.args.len =
+      omega (arith, within, ap (λ l. length l) same, length-replicate c.args.len (Value 0)) in
       bit_at-zero place
       ∙ ap (λ o. cond (has_value o) 0 1)
       (sym (ap (λ l. get_or l place (Value 0)) same ∙ get_or-replicate c.args.len place (Value 0) (Value 0) low));

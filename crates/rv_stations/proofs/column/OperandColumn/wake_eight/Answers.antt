@@ -30,10 +30,16 @@ returns-then-like-eq0 c =
 
 pub wake_from-woken-requires-clause-within : goal.wake_from-woken-requires-clause-within
 wake_from-woken-requires-clause-within c =
-    rw c.as_mut_slice.ensures.value (omega (arith, rw (← c.self.view_is) at c.requires.within, length-column c.self.inside c.self.invariant))
+    rw c.as_mut_slice.ensures.value
+    (omega (arith, rw (← c.self.view_is) at c.requires.within, length-column c.self.inside c.self.invariant))
 
 pub overflow_shl-self : goal.overflow_shl-self
-overflow_shl-self c = omega (arith, rw (← c.self.view_is) at c.requires.within, length-column c.self.inside c.self.invariant, c.self.invariant.few)
+overflow_shl-self c = omega (
+  arith,
+  rw (← c.self.view_is) at c.requires.within,
+  length-column c.self.inside c.self.invariant,
+  c.self.invariant.few,
+)
 
 room : (c : goal.After-self-3-1) → c.args.start + 8 ≤ length c.self.inside.tags.items
 room c = omega (arith, rw (← c.self.view_is) at c.requires.within, length-column c.self.inside c.self.invariant)
@@ -42,7 +48,8 @@ tags_are : (c : goal.After-self-3-1) →
     (with_items c.self.inside.tags c.wake_from-woken.new.tags).items
     ≡ in_eight c.args.start (map (woken_tag c.args.seq)) c.self.inside.tags.items
 tags_are c =
-    with_items_is c.self.inside.tags c.wake_from-woken.new.tags (omega (arith, c.wake_from-woken.auto.tags, c.as_mut_slice.ensures.len))
+    with_items_is c.self.inside.tags c.wake_from-woken.new.tags
+    (omega (arith, c.wake_from-woken.auto.tags, c.as_mut_slice.ensures.len))
     ∙ c.wake_from-woken.ensures.tags
     ∙ ap (in_eight c.args.start (map (woken_tag c.args.seq))) c.as_mut_slice.ensures.value
 
@@ -52,7 +59,8 @@ values_are : (c : goal.After-self-3-1) →
     (zip2 (woken_value c.args.seq c.args.value) (take 8 (drop c.args.start c.self.inside.tags.items)))
     c.self.inside.values.items
 values_are c =
-    with_items_is c.self.inside.values c.wake_from-woken.new.values (omega (arith, c.wake_from-woken.auto.values, c.as_mut_slice-2.ensures.len))
+    with_items_is c.self.inside.values c.wake_from-woken.new.values
+    (omega (arith, c.wake_from-woken.auto.values, c.as_mut_slice-2.ensures.len))
     ∙ rw c.from.ensures at c.wake_from-woken.ensures.values
     ∙ ap₂ (λ (ts vs : List ℕ). in_eight c.args.start
     (zip2 (woken_value c.args.seq c.args.value) (take 8 (drop c.args.start ts))) vs) c.as_mut_slice.ensures.value

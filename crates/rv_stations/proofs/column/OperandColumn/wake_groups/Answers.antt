@@ -13,7 +13,14 @@ pub returns-then-len-start : goal.returns-then-len-start
 returns-then-len-start c =
     let lowest = bit_at-trailing_zeros w64 c.loop-left.left (omega arith) c.loop-left.invariant.0 in
     Waking-end c.args.seq c.args.value c.loop-left.left c.args.self.now c.loop-left.self
-    (λ i lt. lowest.2 i (omega (arith, c.if-len-start.true, c.len.ensures.len, c.loop-left.invariant.1.long, lt, c.first_eight-start.ensures)))
+    (λ i lt. lowest.2 i (omega (
+      arith,
+      c.if-len-start.true,
+      c.len.ensures.len,
+      c.loop-left.invariant.1.long,
+      lt,
+      c.first_eight-start.ensures,
+    )))
     c.loop-left.invariant.1
 
 pub loop-left-smaller : goal.loop-left-smaller
@@ -36,7 +43,14 @@ loop-left-preserved c =
           (Waking-next c.args.seq c.args.value c.loop-left.left c.without_eight-left.result c.first_eight-start.result
           c.args.self.now c.loop-left.self
           (omega (arith, i.long, c.len.ensures.len, c.len.ensures.few))
-          (omega (arith, i.long, c.len.ensures.len, c.len.ensures.eights, c.if-len-start.false, c.first_eight-start.ensures))
+          (omega (
+            arith,
+            i.long,
+            c.len.ensures.len,
+            c.len.ensures.eights,
+            c.if-len-start.false,
+            c.first_eight-start.ensures,
+          ))
           c.without_eight-left.ensures.before c.without_eight-left.ensures.after i),
     )
 

@@ -45,7 +45,8 @@ marked_last c =
     let last =
     get_or-set_same c.self.inside.dispatched.items c.from-place.result (newest c) nothing
     (omega (arith, there, c.self.invariant.dispatched)) in
-    c.marked-self-inside-2.ensures.bit ∙ turned c.is_load.result 1 0 ∙ ap (λ b. cond b 0 1) (c.is_load.ensures ∙ sym (ap loads_of last))
+    c.marked-self-inside-2.ensures.bit ∙ turned c.is_load.result 1 0
+    ∙ ap (λ b. cond b 0 1) (c.is_load.ensures ∙ sym (ap loads_of last))
 
 waiting_are : (c : goal.After-self-5-1) →
     in_places
@@ -89,16 +90,19 @@ invariant_of-self c = record {
   in_order =
       rw (waiting_are c)
       (IsInOrder-push seq_of _ c.args.waiting c.self.invariant.in_order (rw (← c.self.view_is) at c.requires.youngest));
-  held = marks-next (λ k. bit_at c.self.inside.held k ≡ 1) (λ k. bit_at c.marked-self-inside.result k ≡ 1) c.from-place.result
+  held = marks-next (λ k. bit_at c.self.inside.held k ≡ 1) (λ k. bit_at c.marked-self-inside.result k
+      ≡ 1) c.from-place.result
       (λ k low other set. c.marked-self-inside.ensures.others k low other ∙ set)
-      c.self.inside.places.items c.self.inside.count c.self.invariant.apart (few c) (is c) c.marked-self-inside.ensures.bit c.self.invariant.held;
+      c.self.inside.places.items c.self.inside.count c.self.invariant.apart (few c) (is c)
+      c.marked-self-inside.ensures.bit c.self.invariant.held;
   others = marks-next (IsMarkedOther c.self.inside.dispatched.items c.self.inside.others)
       (IsMarkedOther (dispatched c) c.marked-self-inside-2.result) c.from-place.result
       (λ k low other set. c.marked-self-inside-2.ensures.others k low other ∙ set
       ∙ ap (λ b. cond b 0 1)
       (sym (ap loads_of
       (get_or-set_other c.self.inside.dispatched.items c.from-place.result k (newest c) nothing other))))
-      c.self.inside.places.items c.self.inside.count c.self.invariant.apart (few c) (is c) (marked_last c) c.self.invariant.others;
+      c.self.inside.places.items c.self.inside.count c.self.invariant.apart (few c) (is c) (marked_last c)
+      c.self.invariant.others;
 }
 
 pub returns : goal.returns
@@ -109,15 +113,19 @@ returns c =
 pub marked-self-inside-requires : goal.marked-self-inside-requires
 marked-self-inside-requires c =
     let p = c.self.inside in
-    let low : p.count < vec_len p.places = omega (arith, rw (← c.self.view_is) at c.requires.room, length-pool p c.self.invariant) in
+    let low : p.count < vec_len p.places =
+    omega (arith, rw (← c.self.view_is) at c.requires.room, length-pool p c.self.invariant) in
     let is : slice_get p.places.items p.count ≡ Some c.from-place.result =
-    slice_get_read p.places.items _ p.count c.index.result.now refl (omega (arith, low)) c.index.ensures ∙ ap Some (sym c.from-place.ensures) in
+    slice_get_read p.places.items _ p.count c.index.result.now refl (omega (arith, low)) c.index.ensures
+    ∙ ap Some (sym c.from-place.ensures) in
     omega (arith, place_there p c.self.invariant p.count c.from-place.result is, c.self.invariant.few)
 
 pub marked-self-inside-requires-2 : goal.marked-self-inside-requires-2
 marked-self-inside-requires-2 c =
     let p = c.self.inside in
-    let low : p.count < vec_len p.places = omega (arith, rw (← c.self.view_is) at c.requires.room, length-pool p c.self.invariant) in
+    let low : p.count < vec_len p.places =
+    omega (arith, rw (← c.self.view_is) at c.requires.room, length-pool p c.self.invariant) in
     let is : slice_get p.places.items p.count ≡ Some c.from-place.result =
-    slice_get_read p.places.items _ p.count c.index.result.now refl (omega (arith, low)) c.index.ensures ∙ ap Some (sym c.from-place.ensures) in
+    slice_get_read p.places.items _ p.count c.index.result.now refl (omega (arith, low)) c.index.ensures
+    ∙ ap Some (sym c.from-place.ensures) in
     omega (arith, place_there p c.self.invariant p.count c.from-place.result is, c.self.invariant.few)

@@ -14,7 +14,8 @@ returns c = λ none test.
     (passed_whole test (length ws) ws
     (passed_unasked test ws 0 (length ws) false
     (λ at from low.
-    unasked p c.self.invariant at (omega (arith, low, length-pool p c.self.invariant)) c.waiting.result c.waiting-2.result
+    unasked p c.self.invariant at (omega (arith, low, length-pool p c.self.invariant))
+    c.waiting.result c.waiting-2.result
     c.unmarked.result c.waiting.ensures c.waiting-2.ensures false c.unmarked.ensures.kept
     (c.marks_any.ensures none (get_or p.places.items at 0)))
     (λ wait. cc wait) refl)

@@ -22,7 +22,8 @@ pub invariant_of-result : goal.invariant_of-result
 invariant_of-result c =
     let places = c.in_ok-first_places.field-0.items in
     let stations = c.args.kind.stations in
-    let long : length places ≡ stations = ap (λ (l : List ℕ). length l) c.in_ok-first_places.ensures ∙ length-range_with_len 0 stations in
+    let long : length places ≡ stations = ap (λ (l : List ℕ). length l) c.in_ok-first_places.ensures
+    ∙ length-range_with_len 0 stations in
     let place : (i d : ℕ) → i < stations → get_or places i d ≡ 0 + i =
     λ i d lt. ap (λ (l : List ℕ). get_or l i d) c.in_ok-first_places.ensures
     ∙ get_or-range_with_len 0 stations i d lt in
@@ -43,7 +44,13 @@ invariant_of-result c =
         c.in_ok-vec.ensures.len,
       );
       there = λ i d lt. omega (arith, place i d (omega (arith, long, lt)), long, lt, c.in_ok-vec.ensures.len);
-      apart = λ i j d lt within same. omega (arith, place i d (omega (arith, long, lt, within)), place j d (omega (arith, long, within)), lt, same);
+      apart = λ i j d lt within same. omega (
+        arith,
+        place i d (omega (arith, long, lt, within)),
+        place j d (omega (arith, long, within)),
+        lt,
+        same,
+      );
       in_order = λ i j d lt within. absurd (omega arith);
       held = λ i d lt. absurd (omega arith);
       others = λ i d lt. absurd (omega arith);

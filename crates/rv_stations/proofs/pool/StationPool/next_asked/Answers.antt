@@ -8,7 +8,8 @@ use Rattle.rv_stations.proofs.pool.StationPool.next_asked.Goals as goal
 pub returns-clause-asked : goal.returns-clause-asked
 returns-clause-asked c = λ within.
     let p = c.self.inside in
-    let low : c.first_marked.result < p.count = omega (arith, rw (← c.self.view_is) at within, length-pool p c.self.invariant) in
+    let low : c.first_marked.result < p.count =
+    omega (arith, rw (← c.self.view_is) at within, length-pool p c.self.invariant) in
     let set : bit_at c.unmarked.result (get_or p.places.items c.first_marked.result 0) ≡ 1 =
     ap (λ (l : List ℕ). bit_at c.unmarked.result (get_or l c.first_marked.result 0)) (sym c.as_slice.ensures.value)
     ∙ c.first_marked.ensures.marked low in
@@ -26,6 +27,7 @@ returns-clause-others c = λ at from lt.
     ap (λ (l : List ℕ). bit_at c.unmarked.result (get_or l at 0)) (sym c.as_slice.ensures.value)
     ∙ c.first_marked.ensures.others at from lt in
     rw (← c.self.view_is)
-    (unasked p c.self.invariant at low c.waiting.result c.waiting-2.result c.unmarked.result c.waiting.ensures c.waiting-2.ensures c.args.loads_wait
+    (unasked p c.self.invariant at low c.waiting.result c.waiting-2.result c.unmarked.result c.waiting.ensures
+    c.waiting-2.ensures c.args.loads_wait
     (λ k few idle. c.unmarked.ensures.kept k few idle ∙ ap (λ m. bit_at m k) c.one_of-asked.ensures)
     unset)

@@ -15,7 +15,8 @@ pub loop-at-init : goal.loop-at-init
 loop-at-init g c =
     let ws = c.args.self.now.waiting in (
       (λ low. ready-asked false _ (c.next_asked-at.ensures.asked low)),
-      (λ test search. passed_unasked test ws c.args.passed c.next_asked-at.result false c.next_asked-at.ensures.others (λ wait. cc wait) search.1),
+      (λ test search. passed_unasked test ws c.args.passed c.next_asked-at.result false c.next_asked-at.ensures.others
+          (λ wait. cc wait) search.1),
       λ test search wait. cc wait,
     )
 
@@ -23,7 +24,8 @@ pub returns-in-Goes-clause-oldest : goal.returns-in-Goes-clause-oldest
 returns-in-Goes-clause-oldest g c = λ test search.
     let ws = c.args.self.now.waiting in
     let low : c.loop-at.at < length ws = omega (arith, c.loop-at-test.true, c.len-end.ensures.len) in
-    let ready = is_ready-in_place ws c.loop-at.at c.ready_at.result true c.ready_at.ensures (c.loop-at.invariant.0 low) in
+    let ready = is_ready-in_place ws c.loop-at.at c.ready_at.result true c.ready_at.ensures
+    (c.loop-at.invariant.0 low) in
     let passes = search.0 c.ready_at.result Goes (says_at g.F.Fn c.filter.ensures c.in-Goes.is) in
     (Searching-found test ws c.loop-at.at c.ready_at.result c.ready_at.ensures (and_from _ _ ready passes)
     (Searching-from test c.loop-at.at ws (c.loop-at.invariant.1 test search))).0
@@ -32,7 +34,8 @@ pub returns-in-Goes-clause-others : goal.returns-in-Goes-clause-others
 returns-in-Goes-clause-others g c = λ test search.
     let ws = c.args.self.now.waiting in
     let low : c.loop-at.at < length ws = omega (arith, c.loop-at-test.true, c.len-end.ensures.len) in
-    let ready = is_ready-in_place ws c.loop-at.at c.ready_at.result true c.ready_at.ensures (c.loop-at.invariant.0 low) in
+    let ready = is_ready-in_place ws c.loop-at.at c.ready_at.result true c.ready_at.ensures
+    (c.loop-at.invariant.0 low) in
     let passes = search.0 c.ready_at.result Goes (says_at g.F.Fn c.filter.ensures c.in-Goes.is) in
     let pool : List Waiting → Pool = λ ws. record { waiting = ws; capacity = c.args.self.now.capacity } in
     ap pool (Searching-found test ws c.loop-at.at c.ready_at.result c.ready_at.ensures (and_from _ _ ready passes)
@@ -51,12 +54,14 @@ loop-at-preserved g c =
             let waits = search.0 c.ready_at.result Waits (says_at g.F.Fn c.filter.ensures w.in-Waits.is) in
             passed_unasked test ws (at + 1) next _ c.next_asked-at-in-loop-at.ensures.others
             (λ wait. LoadsFail-later test ws at (c.loop-at.invariant.2 test search (sym w.loads_wait-is ∙ wait)))
-            (passed_next test ws at c.ready_at.result c.ready_at.ensures (and_right _ _ waits) (c.loop-at.invariant.1 test search))
+            (passed_next test ws at c.ready_at.result c.ready_at.ensures (and_right _ _ waits)
+            (c.loop-at.invariant.1 test search))
         | in-LoadsWait w ↦
             let wait = search.0 c.ready_at.result LoadsWait (says_at g.F.Fn c.filter.ensures w.in-LoadsWait.is) in
             passed_unasked test ws (at + 1) next _ c.next_asked-at-in-loop-at.ensures.others
             (λ waits. LoadsFail-after test ws at c.ready_at.result c.len-end.ensures.in_order c.ready_at.ensures wait)
-            (passed_next test ws at c.ready_at.result c.ready_at.ensures (and_right _ _ wait.0) (c.loop-at.invariant.1 test search))
+            (passed_next test ws at c.ready_at.result c.ready_at.ensures (and_right _ _ wait.0)
+            (c.loop-at.invariant.1 test search))
       ]),
       λ test search. elim c.match-filter.branch [
         | in-Waits w ↦

@@ -7,7 +7,8 @@ use Rattle.rv_stations.proofs.pool.StationPool.ready_at.Goals as goal
 pub value_at-first-requires-clause-ready : goal.value_at-first-requires-clause-ready
 value_at-first-requires-clause-ready c =
     let p = c.self.inside in
-    let low : c.args.at < p.count = omega (arith, rw (← c.self.view_is) at c.requires.there, length-pool p c.self.invariant) in
+    let low : c.args.at < p.count =
+    omega (arith, rw (← c.self.view_is) at c.requires.there, length-pool p c.self.invariant) in
     let is : slice_get p.places.items c.args.at ≡ Some c.from-place.result =
     slice_get_read p.places.items _ c.args.at c.index.result.now refl (omega (arith, low, c.self.invariant.within))
     c.index.ensures ∙ ap Some (sym c.from-place.ensures) in
@@ -16,7 +17,8 @@ value_at-first-requires-clause-ready c =
 pub value_at-second-requires-clause-ready : goal.value_at-second-requires-clause-ready
 value_at-second-requires-clause-ready c =
     let p = c.self.inside in
-    let low : c.args.at < p.count = omega (arith, rw (← c.self.view_is) at c.requires.there, length-pool p c.self.invariant) in
+    let low : c.args.at < p.count =
+    omega (arith, rw (← c.self.view_is) at c.requires.there, length-pool p c.self.invariant) in
     let is : slice_get p.places.items c.args.at ≡ Some c.from-place.result =
     slice_get_read p.places.items _ c.args.at c.index.result.now refl (omega (arith, low, c.self.invariant.within))
     c.index.ensures ∙ ap Some (sym c.from-place.ensures) in
@@ -25,12 +27,14 @@ value_at-second-requires-clause-ready c =
 pub returns : goal.returns
 returns c =
     let p = c.self.inside in
-    let low : c.args.at < p.count = omega (arith, rw (← c.self.view_is) at c.requires.there, length-pool p c.self.invariant) in
+    let low : c.args.at < p.count =
+    omega (arith, rw (← c.self.view_is) at c.requires.there, length-pool p c.self.invariant) in
     let is : slice_get p.places.items c.args.at ≡ Some c.from-place.result =
     slice_get_read p.places.items _ c.args.at c.index.result.now refl (omega (arith, low, c.self.invariant.within))
     c.index.ensures ∙ ap Some (sym c.from-place.ensures) in
     let there = place_there p c.self.invariant c.args.at c.from-place.result is in
-    let seq = slice_get_read p.seqs.items _ c.from-place.result c.index-seq.result.now refl (omega (arith, there)) c.index-seq.ensures in
+    let seq = slice_get_read p.seqs.items _ c.from-place.result c.index-seq.result.now refl (omega (arith, there))
+    c.index-seq.ensures in
     let dispatched =
     slice_get_read p.dispatched.items _ c.from-place.result c.index-dispatched.result.now refl
     (omega (arith, there, c.self.invariant.dispatched)) c.index-dispatched.ensures in

@@ -12,13 +12,15 @@ use Rattle.rv_stations.proofs.pool.StationPool.seq_at.Goals as goal
 pub returns : goal.returns
 returns c =
     let p = c.self.inside in
-    let low : c.args.at < p.count = omega (arith, rw (← c.self.view_is) at c.requires, length-pool p c.self.invariant) in
+    let low : c.args.at < p.count =
+    omega (arith, rw (← c.self.view_is) at c.requires, length-pool p c.self.invariant) in
     let is : slice_get p.places.items c.args.at ≡ Some c.from.result =
     slice_get_read p.places.items _ c.args.at c.index.result.now refl (omega (arith, low, c.self.invariant.within))
     c.index.ensures ∙ ap Some (sym c.from.ensures) in
     let there = place_there p c.self.invariant c.args.at c.from.result is in
     let none : Dispatched = record { pc = 0; instruction = Fence } in
-    let seq = slice_get_read p.seqs.items _ c.from.result c.index-2.result.now refl (omega (arith, there)) c.index-2.ensures in
+    let seq = slice_get_read p.seqs.items _ c.from.result c.index-2.result.now refl
+    (omega (arith, there)) c.index-2.ensures in
     rw (← c.self.view_is)
     (ap (option_map seq_of) (slice_get-pool p c.args.at c.from.result _ _ _ _ low is seq
     (slice_get-get_or p.dispatched.items c.from.result none (omega (arith, there, c.self.invariant.dispatched)))

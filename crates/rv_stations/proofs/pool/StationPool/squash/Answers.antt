@@ -12,13 +12,18 @@ use Rattle.rv_stations.proofs.PoolLemmas.{length-pool, in_places-take}
 use Rattle.rv_stations.proofs.pool.StationPool.squash.Goals as goal
 
 fewer : (c : goal.After-self-1) → c.count_below-self-inside.result ≤ c.self.inside.count
-fewer c = omega (arith, rw (← c.self.view_is) at c.count_below-self-inside.ensures.within, length-pool c.self.inside c.self.invariant)
+fewer c = omega (
+  arith,
+  rw (← c.self.view_is) at c.count_below-self-inside.ensures.within,
+  length-pool c.self.inside c.self.invariant,
+)
 
 waiting_are : (c : goal.After-self-1) →
     in_places (in_all c.self.inside) (take c.count_below-self-inside.result c.self.inside.places.items)
     ≡ below seq_of c.args.from (in_places (in_all c.self.inside) (take c.self.inside.count c.self.inside.places.items))
 waiting_are c =
-    in_places-take (in_all c.self.inside) c.self.inside.places.items c.count_below-self-inside.result c.self.inside.count (fewer c)
+    in_places-take (in_all c.self.inside) c.self.inside.places.items c.count_below-self-inside.result
+    c.self.inside.count (fewer c)
     ∙ sym (rw (← c.self.view_is) at c.count_below-self-inside.ensures.below)
 
 pub invariant_of-self : goal.invariant_of-self

@@ -37,22 +37,32 @@ left c =
     ∙ ap (λ n. remove (take n p.places.items) c.args.at) next
 
 in_front : (c : goal.After-self-2-1) → c.args.at < length (take c.self.inside.count c.self.inside.places.items)
-in_front c = omega (arith, low c, length-take-le c.self.inside.count c.self.inside.places.items (omega (arith, c.self.invariant.within)))
+in_front c = omega (
+  arith,
+  low c,
+  length-take-le c.self.inside.count c.self.inside.places.items
+      (omega (arith, c.self.invariant.within)),
+)
 
 -- what holds of the places in use holds of those that stay
-module _ (c : goal.After-self-2-1) (P Q : ℕ → Type 0) (step : (k : ℕ) → k < 64 → (k ≡ c.from-place.result → ⊥) → P k → Q k) where
-  stay : All P (take c.self.inside.count c.self.inside.places.items) → All Q (take (c.self.inside.count - 1) c.move_back.new.places.items)
+module _ (c : goal.After-self-2-1) (P Q : ℕ → Type 0) (step : (k : ℕ) → k < 64 → (k ≡ c.from-place.result → ⊥) → P k →
+    Q k) where
+  stay : All P (take c.self.inside.count c.self.inside.places.items) →
+      All Q (take (c.self.inside.count - 1) c.move_back.new.places.items)
   stay marks =
       let p = c.self.inside in
-      let few : All (λ k. k < 64) p.places.items = λ i d lt. omega (arith, c.self.invariant.there i d lt, c.self.invariant.few) in
+      let few : All (λ k. k < 64) p.places.items =
+      λ i d lt. omega (arith, c.self.invariant.there i d lt, c.self.invariant.few) in
       let is : slice_get p.places.items c.args.at ≡ Some c.from-place.result =
-      slice_get_read p.places.items _ c.args.at c.index.result.now refl (within c) c.index.ensures ∙ ap Some (sym c.from-place.ensures) in
+      slice_get_read p.places.items _ c.args.at c.index.result.now refl (within c) c.index.ensures
+      ∙ ap Some (sym c.from-place.ensures) in
       rw (left c)
       (marks-removed P Q c.from-place.result step (take p.count p.places.items) c.args.at
       (AreApart-take p.count p.places.items (omega (arith, c.self.invariant.within)) c.self.invariant.apart)
       (All-take (λ k. k < 64) p.count p.places.items few)
       (in_front c)
-      (get_or-take p.count p.places.items c.args.at 0 (low c) ∙ get_or_from_slice_get p.places.items c.args.at c.from-place.result 0 is)
+      (get_or-take p.count p.places.items c.args.at 0 (low c) ∙ get_or_from_slice_get p.places.items c.args.at
+      c.from-place.result 0 is)
       marks)
 
 waiting_are : (c : goal.After-self-2-1) →
@@ -104,7 +114,8 @@ returns-clause-others c =
 pub marked-self-inside-requires : goal.marked-self-inside-requires
 marked-self-inside-requires c =
     let p = c.self.inside in
-    let low : c.args.at < p.count = omega (arith, rw (← c.self.view_is) at c.requires, length-pool p c.self.invariant) in
+    let low : c.args.at < p.count =
+    omega (arith, rw (← c.self.view_is) at c.requires, length-pool p c.self.invariant) in
     let is : slice_get p.places.items c.args.at ≡ Some c.from-place.result =
     slice_get_read p.places.items _ c.args.at c.index.result.now refl (omega (arith, low, c.self.invariant.within))
     c.index.ensures ∙ ap Some (sym c.from-place.ensures) in

@@ -10,7 +10,8 @@ use Rattle.rv_stations.specs.PoolFields.{joined, in_all, in_places}
 use Rattle.rv_stations.proofs.PoolLemmas.{same_lengths, length-joined, joined-woken, in_places-map}
 use Rattle.rv_stations.proofs.pool.StationPool.wake.Goals as goal
 
-there : (c : goal.After-wake-2) → All (λ k. k < length (in_all c.self.inside)) (take c.self.inside.count c.self.inside.places.items)
+there : (c : goal.After-wake-2) →
+    All (λ k. k < length (in_all c.self.inside)) (take c.self.inside.count c.self.inside.places.items)
 there c = λ i d lt.
     omega (
       arith,
@@ -26,16 +27,20 @@ waiting_are : (c : goal.After-wake-2) →
     (in_places (in_all c.self.inside) (take c.self.inside.count c.self.inside.places.items))
 waiting_are c =
     rw (c.wake.ensures, c.wake-2.ensures)
-    (ap (λ ws. in_places ws (take c.self.inside.count c.self.inside.places.items)) (joined-woken c.args.seq c.args.value _ _ _ _)
-    ∙ in_places-map (woken c.args.seq c.args.value) (in_all c.self.inside) (take c.self.inside.count c.self.inside.places.items) (there c))
+    (ap (λ ws. in_places ws (take c.self.inside.count c.self.inside.places.items))
+    (joined-woken c.args.seq c.args.value _ _ _ _)
+    ∙ in_places-map (woken c.args.seq c.args.value) (in_all c.self.inside)
+    (take c.self.inside.count c.self.inside.places.items) (there c))
 
 pub invariant_of-self : goal.invariant_of-self
 invariant_of-self c = record {
   within = c.self.invariant.within;
   few = c.self.invariant.few;
   dispatched = c.self.invariant.dispatched;
-  first = rw c.wake.ensures (length-map c.self.inside.first (woken_operand c.args.seq c.args.value) ∙ c.self.invariant.first);
-  second = rw c.wake-2.ensures (length-map c.self.inside.second (woken_operand c.args.seq c.args.value) ∙ c.self.invariant.second);
+  first = rw c.wake.ensures (length-map c.self.inside.first (woken_operand c.args.seq c.args.value)
+      ∙ c.self.invariant.first);
+  second = rw c.wake-2.ensures (length-map c.self.inside.second (woken_operand c.args.seq c.args.value)
+      ∙ c.self.invariant.second);
   there = c.self.invariant.there;
   apart = c.self.invariant.apart;
   in_order =

@@ -16,7 +16,8 @@ returns-in_default c =
 pub invariant_of-self-2 : goal.invariant_of-self-2
 invariant_of-self-2 c =
     let count = rw (← c.self.view_is) at c.older_count-place.ensures in
-    let answer = map-answered c.args.seq c.args.news c.self.inside.ring.items c.older_count-place.result c.in-Some.store.now count c.self.invariant.0 (sym c.in-Some.ensures.value) in
+    let answer = map-answered c.args.seq c.args.news c.self.inside.ring.items c.older_count-place.result
+    c.in-Some.store.now count c.self.invariant.0 (sym c.in-Some.ensures.value) in
     rw (c.answered.ensures, ← answer) (
       IsInOrder-map (λ s. s.seq) (λ s. s.seq) (answered c.args.seq c.args.news)
           (seq-answered c.args.seq c.args.news) c.self.inside.ring.items c.self.invariant.0,
@@ -26,5 +27,6 @@ invariant_of-self-2 c =
 pub returns : goal.returns
 returns c =
     let count = rw (← c.self.view_is) at c.older_count-place.ensures in
-    let answer = map-answered c.args.seq c.args.news c.self.inside.ring.items c.older_count-place.result c.in-Some.store.now count c.self.invariant.0 (sym c.in-Some.ensures.value) in
+    let answer = map-answered c.args.seq c.args.news c.self.inside.ring.items c.older_count-place.result
+    c.in-Some.store.now count c.self.invariant.0 (sym c.in-Some.ensures.value) in
     rw (← c.self.view_is, answer, c.answered.ensures) refl

@@ -10,8 +10,10 @@ returns-in_default c =
 pub invariant_of-self-2 : goal.invariant_of-self-2
 invariant_of-self-2 c =
     let drain = with_oldest_draining-set c.self.inside.ring.items c.in-Some.store.now (sym c.in-Some.ensures.value) in
-    rw (c.draining-store.ensures, ← drain)
-    (IsInOrder-draining c.self.inside.ring.items c.self.invariant.0, ComeFirst-draining c.self.inside.ring.items c.self.invariant.1)
+    rw (c.draining-store.ensures, ← drain) (
+      IsInOrder-draining c.self.inside.ring.items c.self.invariant.0,
+      ComeFirst-draining c.self.inside.ring.items c.self.invariant.1,
+    )
 
 pub returns : goal.returns
 returns c =

@@ -13,7 +13,8 @@ older_bytes-requires c =
     let front = c.as_slices.result.0.now in
     let rest : drop (length front) c.self.inside.ring.items ≡ c.as_slices.result.1.now =
     ap (drop (length front)) (sym c.as_slices.ensures) ∙ drop-append_seam front c.as_slices.result.1.now in
-    subst (IsInOrder (λ s. s.seq)) rest (IsInOrder-drop (λ s. s.seq) (length front) c.self.inside.ring.items c.self.invariant.0)
+    subst (IsInOrder (λ s. s.seq)) rest
+    (IsInOrder-drop (λ s. s.seq) (length front) c.self.inside.ring.items c.self.invariant.0)
 
 pub returns : goal.returns
 returns c =

@@ -11,7 +11,9 @@ kept : (c : goal.After-truncate_back) →
     ≡ buffer (filter (λ s. nat_lt s.seq c.args.from) c.self.inside.ring.items) c.self.inside.ring.capacity
 kept c =
     let items = c.self.inside.ring.items in
-    let same : take c.older_count-kept.result items ≡ filter (λ s. nat_lt s.seq c.args.from) items = take-prefix_len_at (λ s. nat_lt s.seq c.args.from) items c.older_count-kept.result (rw (← c.self.view_is) at c.older_count-kept.ensures) (ComeFirst-older c.args.from items c.self.invariant.0) in
+    let same : take c.older_count-kept.result items ≡ filter (λ s. nat_lt s.seq c.args.from) items =
+    take-prefix_len_at (λ s. nat_lt s.seq c.args.from) items c.older_count-kept.result
+    (rw (← c.self.view_is) at c.older_count-kept.ensures) (ComeFirst-older c.args.from items c.self.invariant.0) in
     c.truncate_back.ensures ∙ ap (λ l. buffer l c.self.inside.ring.capacity) same
 
 pub invariant_of-self : goal.invariant_of-self

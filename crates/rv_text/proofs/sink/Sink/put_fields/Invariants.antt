@@ -6,4 +6,5 @@ use Rattle.rv_text.proofs.sink.Sink.put_fields.Given as goal
 
 -- the lines so far are said
 abbrev pub invariant-loop-field : goal.invariant-loop-field
-invariant-loop-field g l = Says g.W.Write.contents l.initial.self l.self (flat_map field_line (take l.field-index l.fields))
+invariant-loop-field g l =
+    Says g.W.Write.contents l.initial.self l.self (flat_map field_line (take l.field-index l.fields))

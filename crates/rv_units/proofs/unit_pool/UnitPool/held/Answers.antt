@@ -6,7 +6,8 @@ use Rattle.rv_units.proofs.unit_pool.UnitPool.held.Goals as goal
 
 pub returns-then-self-cycle : goal.returns-then-self-cycle
 returns-then-self-cycle c =
-    rw (← c.self.view_is) (rw (c.if-self.true, c.if-self-cycle.true, holding-now c.args.cycle c.self.inside.count) (sym (length-replicate _ _)))
+    rw (← c.self.view_is) (rw (c.if-self.true, c.if-self-cycle.true, holding-now c.args.cycle c.self.inside.count)
+    (sym (length-replicate _ _)))
 
 pub returns-else-self-cycle : goal.returns-else-self-cycle
 returns-else-self-cycle c =

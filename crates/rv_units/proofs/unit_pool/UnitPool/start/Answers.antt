@@ -19,8 +19,10 @@ kept c = filter_same _ (holds_unit c.args.cycle) _ (λ x b f' k. search rules) _
 
 pub push_reserved-requires : goal.push_reserved-requires
 push_reserved-requires c =
-    let kept : c.retain.new.self.items ≡ holding c.args.cycle c.self.inside.starts.items = filter_same _ (holds_unit c.args.cycle) _ (λ x b f' k. search rules) _ _ c.retain.ensures.filtered in
-    let free : length (holding c.args.cycle c.self.inside.starts.items) < c.self.inside.units = ltb-true _ _ (rw (← c.self.view_is, c.if-self.false) at c.requires) in
+    let kept : c.retain.new.self.items ≡ holding c.args.cycle c.self.inside.starts.items =
+    filter_same _ (holds_unit c.args.cycle) _ (λ x b f' k. search rules) _ _ c.retain.ensures.filtered in
+    let free : length (holding c.args.cycle c.self.inside.starts.items) < c.self.inside.units =
+    ltb-true _ _ (rw (← c.self.view_is, c.if-self.false) at c.requires) in
     omega (arith, ap length kept, free, c.retain.ensures.capacity, c.self.invariant.reserved)
 
 pub returns : goal.returns

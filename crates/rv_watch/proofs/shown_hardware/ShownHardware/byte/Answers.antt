@@ -10,14 +10,16 @@ returns-then-not-is_cached-clause-seen c =
 pub returns-in-Some-clause-seen : goal.returns-in-Some-clause-seen
 returns-in-Some-clause-seen c =
     let cache = c.self.inside.cache.now in
-    rw (← c.self.view_is) (c.self.invariant.bytes.inside c.args.address c.in-Some.byte (c.if-not-is_cached.ensures.0 refl)
+    rw (← c.self.view_is) (c.self.invariant.bytes.inside c.args.address c.in-Some.byte
+    (c.if-not-is_cached.ensures.0 refl)
     (sym (ap (λ o. unwrap_or o (get_or cache.bytes (c.args.address - cache.base) 0))
     (sym c.committed_byte.ensures ∙ c.in-Some.is))))
 
 pub returns-in-None-clause-seen : goal.returns-in-None-clause-seen
 returns-in-None-clause-seen c =
     let cache = c.self.inside.cache.now in
-    rw (← c.self.view_is) (c.self.invariant.bytes.inside c.args.address c.peek.result (c.if-not-is_cached.ensures.0 refl)
+    rw (← c.self.view_is) (c.self.invariant.bytes.inside c.args.address c.peek.result
+    (c.if-not-is_cached.ensures.0 refl)
     (c.peek.ensures ∙ sym (ap (λ o. unwrap_or o (get_or cache.bytes (c.args.address - cache.base) 0))
     (sym c.committed_byte.ensures ∙ c.in-None.is))))
 
