@@ -14,6 +14,7 @@ pub mod FetchedInOrder
 pub mod DispatchedInOrder
 pub mod FetchWidth
 pub mod DispatchWidth
+pub mod FetchedTogether
 pub mod Operands
 pub mod LoadsAfterStores
 pub mod BusWidth

@@ -126,6 +126,7 @@ pub use Rattle.rv_hardware.specs.Laws.{AreApartAtPort, AreCounted, DoesNotWait, 
 pub use Rattle.rv_hardware.specs.Laws.{HasOperandsIn, HasOrderedStamps, IsBetween, IsBroadcastFirst, IsCost}
 pub use Rattle.rv_hardware.specs.Laws.{IsFetchedAhead}
 pub use Rattle.rv_hardware.specs.Laws.{IsFetchedAfter, IsFetchedSince, IsFirst, IsKnownBefore, IsLoadCost}
+pub use Rattle.rv_hardware.specs.Laws.{IsNextWord}
 pub use Rattle.rv_hardware.specs.Laws.{IsTrappedSoon, IssuesWithOperands, LacksRoom, Laws, LeaveNoUnitIdle}
 pub use Rattle.rv_hardware.specs.Laws.{LeavesNoBusIdle, LeavesNoUnitIdle, LoadsAfterStore, NeverMoreThan}
 pub use Rattle.rv_hardware.specs.Laws.{TakesDueInterrupts, WaitsForBus, WaitsForRoom, WaitsForUnits, dispatch_cycles}

@@ -4,6 +4,7 @@ use Rattle.std.specs.Prelude.{map, Some, is_some, IfSome, MatchOption, All, AllP
 use Rattle.std.specs.List.{list_any, range_with_len}
 use Rattle.rv_isa.specs.Arrivals.{lines_at}
 use Rattle.rv_isa.specs.PerKind.{at_kind}
+use Rattle.rv_isa.specs.Word.{pc_plus_4}
 use Rattle.rv_isa.specs.declared.{lines.Arrival.Arrival, operations.Kind.Kind}
 use Rattle.rv_isa.specs.declared.{values.CacheValues.CacheValues, values.Values.Values}
 use Rattle.rv_isa.specs.declared.values.Recovery.TheVariants.{Early}
@@ -216,14 +217,19 @@ TakesDueInterrupts layout arrivals from to before steps =
     (c : ℕ) → from ≤ c → c < to →
     (s : State) × ComesTo layout arrivals before steps c s × TakesDueInterrupt arrivals steps c s
 
--- where row b comes next after row a, b is fetched when a retires, with early recovery when a's result is broadcast, or
--- as soon as the fetch buffer has room
+-- Of two rows that are steps one after the other: b is fetched in the cycle in which a retires, or with early recovery
+-- in that in which a's result is broadcast, or else rows fill the fetch buffer in each cycle from `from` on that lies
+-- between their fetches.
 abbrev pub IsFetchedAfter : Values → ℕ → List Row → Step → Step → Type 0
 IsFetchedAfter values from rows (Retired a) (Retired b) =
     (b.fetched ≡ a.retired) ⊎
     ((values.recovery ≡ Early) × MatchOption a.execution ⊥ (λ x. b.fetched ≡ x.broadcast)) ⊎
     ((c : ℕ) → from ≤ c → a.fetched < c → c < b.fetched → values.fetch_buffer ≤ count_by (is_buffered_in c) rows)
 IsFetchedAfter values from rows _ _ = Unit {0}
+
+-- where row b comes next after row a and was fetched in the same cycle, it stands at the address after a
+abbrev pub IsNextWord : Row → Row → Type 0
+IsNextWord a b = a.fetched ≡ b.fetched → b.pc ≡ pc_plus_4 a.pc
 
 -- The laws, of the steps of the cycles from `from` on and below `to`. A stamp is the number of a cycle.
 pub record Laws (values : Values) (from to : ℕ) (steps : List Step) : Type 0 where
@@ -249,6 +255,8 @@ pub record Laws (values : Values) (from to : ℕ) (steps : List Step) : Type 0 w
   pub dispatched_in_order : AllPairs (λ a b. a.dispatched ≤ b.dispatched) (rows_of steps)
   pub fetch_width : NeverMoreThan values.fetch_width is_fetched_in (rows_of steps)
   pub dispatch_width : NeverMoreThan values.dispatch_width is_dispatched_in (rows_of steps)
+  -- instructions fetched in one cycle stand one after another in memory: one that goes on elsewhere is the last of them
+  pub fetched_together : EachNext IsNextWord (rows_of steps)
   -- an instruction issues after the broadcasts of its operands, and a load after those of all older stores
   pub operands : EachAfter IssuesWithOperands (rows_of steps)
   pub loads_after_stores : AllPairs LoadsAfterStore (rows_of steps)
@@ -271,7 +279,8 @@ pub record Laws (values : Values) (from to : ℕ) (steps : List Step) : Type 0 w
   pub no_idle_unit : (k : Kind) → is_pipelined values k ≡ true → LeaveNoUnitIdle values k from (rows_of steps)
   -- after a trap, an interrupt or a serialising instruction everything is fetched anew
   pub fetched_anew : AllPairs (λ a b. flushes a ≡ true → IsFetchedSince a b) steps
-  -- fetch waits for nothing but room
+  -- between the fetches of two rows that are steps one after the other, fetch waits for nothing but room, unless it
+  -- begins anew with the second: where the first retires or, with early recovery, is broadcast
   pub no_idle_fetch : EachNext (IsFetchedAfter values from (rows_of steps)) steps
   -- dispatch waits for nothing but room
   pub no_idle_dispatch : EachAfter (WaitsForRoom values from) (rows_of steps)

@@ -1,4 +1,4 @@
--- Fetch waits for nothing but room.
+-- Between two rows, one after the other, fetch waits for nothing but room, or begins anew.
 pub mod Links
 pub mod Phases
 pub mod Rows

@@ -3,13 +3,13 @@ use Rattle.rv_hardware.proofs.Words.{◌≡◌, ℕ, suc, ◌+◌, ◌<◌, ◌�
 use Rattle.rv_hardware.proofs.Words.{None, All, count_by, Option, AllPairs, sym, refl, ap, ◌∙◌, subst, append_assoc}
 use Rattle.rv_hardware.proofs.Words.{append-nil, arith, All-weaker, at_kind, Arrival, Values, Each, Hardware}
 use Rattle.rv_hardware.proofs.Words.{AreApartAtPort, DoesNotWait, EachProducer, HasCost, HasOrderedStamps}
-use Rattle.rv_hardware.proofs.Words.{IsBroadcastFirst, IsFetchedAhead, IsFetchedSince, IsKnownBefore, IsTrappedSoon}
-use Rattle.rv_hardware.proofs.Words.{IssuesWithOperands, Laws, LoadsAfterStore, Report, Cycles, Reachable, cycled}
-use Rattle.rv_hardware.proofs.Words.{ended, steps_of, EachAfter, EachNext, flushes, is_broadcast_in, is_buffered_in}
-use Rattle.rv_hardware.proofs.Words.{is_dispatched_in, is_executing_in, is_fetched_in, is_in_flight_in, is_issued_in}
-use Rattle.rv_hardware.proofs.Words.{is_queued_in, is_stationed_in, producer_among, rows_of, is_interrupt, stamp_of}
-use Rattle.rv_hardware.proofs.Words.{Execution, Row, Step, All-Each, All-right, Each-append, Each-right, Each-weaker}
-use Rattle.rv_hardware.proofs.Words.{Each-both, count-count_by, count-append}
+use Rattle.rv_hardware.proofs.Words.{IsBroadcastFirst, IsFetchedAhead, IsFetchedSince, IsKnownBefore, IsNextWord}
+use Rattle.rv_hardware.proofs.Words.{IsTrappedSoon, IssuesWithOperands, Laws, LoadsAfterStore, Report, Cycles}
+use Rattle.rv_hardware.proofs.Words.{Reachable, cycled, ended, steps_of, EachAfter, EachNext, flushes, is_broadcast_in}
+use Rattle.rv_hardware.proofs.Words.{is_buffered_in, is_dispatched_in, is_executing_in, is_fetched_in, is_in_flight_in}
+use Rattle.rv_hardware.proofs.Words.{is_issued_in, is_queued_in, is_stationed_in, producer_among, rows_of, is_interrupt}
+use Rattle.rv_hardware.proofs.Words.{stamp_of, Execution, Row, Step, All-Each, All-right, Each-append, Each-right}
+use Rattle.rv_hardware.proofs.Words.{Each-weaker, Each-both, count-count_by, count-append}
 use Rattle.rv_hardware.proofs.Laws.HeadsDoNotWait.{law_of_heads_do_not_wait}
 use Rattle.rv_hardware.proofs.Laws.FetchedAhead.{law_of_fetched_ahead}
 use Rattle.rv_hardware.proofs.Laws.TrapsSoon.{law_of_traps_soon}
@@ -45,6 +45,7 @@ use Rattle.rv_hardware.proofs.Laws.OtherUnits.{law_of_other_units}
 use Rattle.rv_hardware.proofs.Laws.FetchWidth.{law_of_fetch_width}
 use Rattle.rv_hardware.proofs.Laws.FetchBuffer.{law_of_fetch_buffer}
 use Rattle.rv_hardware.proofs.Laws.DispatchWidth.{law_of_dispatch_width}
+use Rattle.rv_hardware.proofs.Laws.FetchedTogether.{law_of_fetched_together}
 use Rattle.rv_hardware.proofs.Laws.BusWidth.{law_of_bus_width}
 
 -- a history goes on by the cycles of a run
@@ -146,6 +147,9 @@ module _ {v : Values} {earlier steps : List Step} {old new : Hardware} (run : Ru
     dispatched_in_order = rows_pairs (λ a b. a.dispatched ≤ b.dispatched) (law_of_dispatched_in_order run.all);
     fetch_width = λ c. rows_count (is_fetched_in c) v.fetch_width (law_of_fetch_width run.all c);
     dispatch_width = λ c. rows_count (is_dispatched_in c) v.dispatch_width (law_of_dispatch_width run.all c);
+    fetched_together =
+        EachNext-last IsNextWord (rows_of earlier) (rows_of steps)
+        (subst (EachNext IsNextWord) (rows_of_all run) (law_of_fetched_together run.all));
     operands = operands_of_run;
     loads_after_stores = rows_pairs LoadsAfterStore (law_of_loads_after_stores run.all);
     bus_width = λ c. rows_count (is_broadcast_in c) v.bus_width (law_of_bus_width run.all c);

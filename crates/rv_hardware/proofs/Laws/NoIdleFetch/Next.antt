@@ -25,12 +25,13 @@ IsFetchedBy c _ = Unit {0}
 abbrev pub IsFetchedNext : Step → Step → Type 0
 IsFetchedNext a b = IsFetchedBy (stamp_of a) b
 
--- R of each element and the next one, by recursion
-abbrev NextIs : {X : Type 0} → (X → X → Type 0) → X → List X → Type 0
+-- R of an element and the next one, where one comes
+abbrev pub NextIs : {X : Type 0} → (X → X → Type 0) → X → List X → Type 0
 NextIs R x [] = Unit {0}
 NextIs R x (y ∷ ys) = R x y
 
-abbrev EveryNext : {X : Type 0} → (X → X → Type 0) → List X → Type 0
+-- R of each element and the next one, by recursion
+abbrev pub EveryNext : {X : Type 0} → (X → X → Type 0) → List X → Type 0
 EveryNext R [] = Unit {0}
 EveryNext R (x ∷ xs) = NextIs R x xs × EveryNext R xs
 
