@@ -11,7 +11,7 @@ svg_style =
     codes "text{font:12px monospace;fill:#111}\n" ++ (
     codes ".n text{font-size:11px;fill:#444}\n" ++ (
     codes ".n path{stroke:#bbb}\n" ++ (
-    codes ".out text{fill:#888}\n" ++ (
+    codes ".out text{fill:#6b6b6b}\n" ++ (
     codes ".trap text{fill:#a00}\n" ++ (
     codes ".stale text{fill:#a00}\n" ++ (
     codes ".v path{stroke:#c00;stroke-dasharray:4 3}\n" ++ (
@@ -27,7 +27,7 @@ svg_style =
     codes ".b rect{fill:#f0a848}\n" ++ (
     codes ".c rect{fill:#1f7a3d}\n" ++ (
     codes ".t rect{fill:#8c1616}\n" ++ (
-    codes ".x rect{fill:#777}\n" ++ (
+    codes ".x rect{fill:#707070}\n" ++ (
     codes ".w rect{fill:#f1f1f1}\n" ++ (
     codes ".c text,.t text,.x text{fill:#fff}\n" ++ (
     codes "@media print{svg{width:100%;height:auto}}\n" ++ (

@@ -17,7 +17,7 @@ pub(crate) fn write_style<W: Write>(out: &mut Sink<'_, W>)
 text{font:12px monospace;fill:#111}
 .n text{font-size:11px;fill:#444}
 .n path{stroke:#bbb}
-.out text{fill:#888}
+.out text{fill:#6b6b6b}
 .trap text{fill:#a00}
 .stale text{fill:#a00}
 .v path{stroke:#c00;stroke-dasharray:4 3}
@@ -33,7 +33,7 @@ text{font:12px monospace;fill:#111}
 .b rect{fill:#f0a848}
 .c rect{fill:#1f7a3d}
 .t rect{fill:#8c1616}
-.x rect{fill:#777}
+.x rect{fill:#707070}
 .w rect{fill:#f1f1f1}
 .c text,.t text,.x text{fill:#fff}
 @media print{svg{width:100%;height:auto}}

@@ -178,7 +178,7 @@ static FRAME: [&str; 9] = [
     "<g class='v' transform='translate(582 0)'><title>cycle 19, interrupt</title><path d='M0 38V152'/><text x='7' y='34'>!</text></g>\n</g>\n</svg>\n",
     "<g transform='translate(300 44)'><g class='v'><text x='7' y='13'>!</text></g><text x='20' y='13'>interrupt</text></g>\n</g>\n<g transform='translate(0 76)'>\n",
     "</text><text x='328' y='13'>x1/ra=00000005</text>\n<g class='p f' transform='translate(456 0)'>",
-    "\n.out text{fill:#888}\n",
+    "\n.out text{fill:#6b6b6b}\n",
     "\n.trap text{fill:#a00}\n",
 ];
 
