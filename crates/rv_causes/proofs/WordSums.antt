@@ -1,9 +1,10 @@
 -- Each word of a path has the cycles of its causes, and all words together no more than the path.
 use Rattle.std.proofs.Common.{◌≡◌, ℕ, ◌+◌, ◌-◌, ◌≤◌, List, [], ◌∷◌, Option, Some, None, arith}
 use Rattle.std.proofs.lemmas.List.Sums.{sum_by-cons}
-use Rattle.rv_causes.specs.Account.{AreWithin, account_of, no_cycles, with_change, with_more, with_word, words_cycles}
+use Rattle.rv_passage.proofs.ByAddress.{by_place}
+use Rattle.rv_causes.specs.Account.{AreWithin, account_of, address_of, no_cycles, with_change, with_more, with_word}
+use Rattle.rv_causes.specs.Account.{words_cycles}
 use Rattle.rv_causes.specs.declared.{cause.Cause.Cause, event.Event.Event, word_cycles.WordCycles.WordCycles}
-use Rattle.rv_causes.proofs.WordChanges.{by_place}
 use Rattle.rv_causes.proofs.WordWaits.{within-word}
 
 -- those of the first and of the others
@@ -16,7 +17,7 @@ module _ (address : ℕ) (why : Cause) (more : ℕ) where
       ≡ words_cycles words + more
   words-change [] = omega arith
   words-change (w ∷ ws) =
-      by_place address (with_more why more) (λ words. words_cycles words ≡ words_cycles (w ∷ ws) + more) w ws
+      by_place address_of no_cycles address (with_more why more) (λ words. words_cycles words ≡ words_cycles (w ∷ ws) + more) w ws
       (λ is. omega (arith, words-cons w ws, words-cons (with_more why more w) ws))
       (λ above. omega (arith, words-cons (with_more why more (no_cycles address)) (w ∷ ws)))
       (λ below. omega (

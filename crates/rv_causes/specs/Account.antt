@@ -5,6 +5,7 @@ use Rattle.std.specs.Prelude.{sum, Option, Some, None}
 use Rattle.std.proofs.Props.{props}
 use Rattle.std.specs.Coded.{×_prop, Unit-prop}
 use Rattle.std.specs.List.{find, slice_index_or, sum_by}
+use Rattle.rv_passage.specs.ByAddress as kept
 use Rattle.rv_causes.specs.Cause.{place_of}
 use Rattle.rv_causes.specs.declared.{cause.Cause.Cause, point.Reason.Reason}
 use Rattle.rv_causes.specs.declared.{event.Event.Event, word_cycles.WordCycles.WordCycles}
@@ -28,13 +29,13 @@ with_more cause cycles word =
 abbrev pub no_cycles : ℕ → WordCycles
 no_cycles address = record { address = address; cycles = 0; causes = replicate 35 0 }
 
+-- the address of a word
+abbrev pub address_of : WordCycles → ℕ
+address_of word = word.address
+
 -- a change of the word at an address, which has none where it is not among the others yet
 abbrev pub with_change : ℕ → (WordCycles → WordCycles) → List WordCycles → List WordCycles
-with_change address change [] = change (no_cycles address) ∷ []
-with_change address change (word ∷ words) =
-    if word.address == address then change word ∷ words
-    else (if nat_lt address word.address then change (no_cycles address) ∷ word ∷ words
-    else word ∷ with_change address change words)
+with_change = kept.with_change address_of no_cycles
 
 -- so many cycles more of a cause at an address, if there is one
 abbrev pub with_word : Option ℕ → Cause → ℕ → List WordCycles → List WordCycles

@@ -1,5 +1,5 @@
 ghost use Rattle.std.specs.Prelude.{◌≡◌, ◌+◌, ◌≤◌, ◌<◌, ◌^◌, [], length, insert};
-ghost use Rattle.std.specs.Prelude.{slice_index_or, vec_capacity, vec_len, IfErr, IfOk, sum};
+ghost use Rattle.std.specs.Prelude.{vec_capacity, vec_len, IfErr, IfOk, sum};
 ghost use Rattle.rv_causes.specs.Account.{CanHaveMore, no_cycles, with_change, with_cycles, with_more};
 ghost use Rattle.rv_causes.specs.declared.word_cycles.WordCycles.{WordCycles};
 ghost use Rattle.rv_causes.specs.Words.{IsInOrder, IsInOrder-prop, IsPlaceFor, IsPlaceOf, StandsFor};
@@ -54,35 +54,13 @@ pub(crate) fn add_cycles(causes: &mut [u64; CAUSES], cause: Cause, cycles: u64)
     causes[cause.place()] += cycles;
 }
 
-// The address of the word at a place.
-fn address_at(words: &[WordCycles], place: usize) -> u32
-    requires within { place < length words.now }
-    ensures { (word : WordCycles) → result ≡ (slice_index_or words.now place word).address }
-{
-    words[place].address
-}
-
 // The place of the word of an address, or where it would have to stand.
 fn search(words: &[WordCycles], address: u32) -> Result<usize, usize>
     requires order { IsInOrder words.now }
     ensures found { IfOk result (λ place. IsPlaceOf address place words.now) }
     ensures absent { IfErr result (λ place. IsPlaceFor address place words.now) }
 {
-    let mut low = 0;
-    let mut high = words.len();
-    while low < high {
-        let middle = low + (high - low) / 2;
-        let here = address_at(words, middle);
-        if here == address {
-            return Ok(middle);
-        }
-        if here < address {
-            low = middle + 1;
-        } else {
-            high = middle;
-        }
-    }
-    Err(low)
+    words.binary_search_by_key(&address, |word| word.address)
 }
 
 // Puts in the word of an address.

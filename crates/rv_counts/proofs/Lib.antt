@@ -1,5 +1,4 @@
 pub mod CountsMore
-mod ProfilePlaces
 pub mod Changes
 pub mod Profiles
 pub mod Rooms

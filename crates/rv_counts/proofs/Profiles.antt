@@ -5,12 +5,13 @@ use Rattle.std.specs.Option.{option_to_list}
 use Rattle.std.proofs.lemmas.Bool.{cases_Bool, eqb-true, eqb-false}
 use Rattle.rv_passage.specs.declared.passage.{Ending.Ending, Passage.Passage}
 use Rattle.rv_passage.specs.declared.passage.Ending.TheVariants as ending
-use Rattle.rv_counts.specs.Counts.{added, counts_at, once_more_at_head, times_of, with_ended}
+use Rattle.rv_passage.proofs.ByAddress.{in_order-change}
+use Rattle.rv_counts.specs.Counts.{added, counts_at, nothing_at, once_more_at_head, times_of, with_ended}
 use Rattle.rv_counts.specs.Following.{with_head, with_passages}
-use Rattle.rv_counts.specs.Order.{HasAddress, with_change}
+use Rattle.rv_counts.specs.Order.{HasAddress, address_of, with_change}
 use Rattle.rv_counts.specs.Profile.{IsProfileOf}
 use Rattle.rv_counts.specs.declared.{counts.WordCounts.WordCounts, loads.LoadCosts.LoadCosts}
-use Rattle.rv_counts.proofs.Changes.{counted-change, each-change, has-change, has-kept, in_order-change}
+use Rattle.rv_counts.proofs.Changes.{counted-change, each-change, has-change, has-kept}
 use Rattle.rv_counts.proofs.CountsMore.{counts_at-head, counts_at-here, counts_at-none}
 use Rattle.rv_counts.proofs.CountsMore.{counts_at-other, counts_at-other_head}
 
@@ -54,7 +55,7 @@ module _ (address : ℕ) (change : WordCounts → WordCounts) (keeps : (w : Word
   pub profile-change : (words : List WordCounts) → IsProfileOf costs passages heads words →
       IsProfileOf costs passages' heads' (with_change address change words)
   profile-change words is = record {
-    in_order = in_order-change address change keeps words is.in_order;
+    in_order = in_order-change address_of nothing_at address change keeps (λ a. refl) words is.in_order;
     counted = counted-change address change (counts_at costs passages heads)
         (counts_at costs passages' heads') others here
         (counts_at-none costs passages heads address) (λ other. refl) words is.in_order is.counted (is.all address);

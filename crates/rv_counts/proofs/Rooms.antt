@@ -8,12 +8,13 @@ use Rattle.rv_passage.specs.declared.passage.{Ending.Ending, Passage.Passage}
 use Rattle.rv_passage.specs.declared.passage.Ending.TheVariants as ending
 use Rattle.rv_counts.specs.Counts.{CanCount, IsWithin, added, nothing_at, once_more_at_head, one_more, with_ended}
 use Rattle.rv_counts.specs.Following.{CanCountMore, HasRoom, Profiled, with_head, with_passages}
-use Rattle.rv_counts.specs.Order.{with_change}
+use Rattle.rv_counts.specs.Order.{address_of, with_change}
 use Rattle.rv_counts.specs.Load.{is_hit, is_miss, load_cost}
 use Rattle.rv_counts.specs.Passing.{broadcast_wait, dispatch_wait, issue_wait, retirement_wait}
 use Rattle.rv_counts.specs.Wait.{Waited, with_wait}
 use Rattle.rv_counts.specs.declared.{counts.WordCounts.WordCounts, loads.LoadCosts.LoadCosts}
-use Rattle.rv_counts.proofs.Changes.{by_place, each-by, each-change, length-change}
+use Rattle.rv_passage.proofs.ByAddress.{by_place, length-change}
+use Rattle.rv_counts.proofs.Changes.{each-by, each-change}
 
 waits-within : (wait : Option ℕ) (w : Waited) → (with_wait wait w).count ≤ w.count + 1
 waits-within None w = omega arith
@@ -126,7 +127,7 @@ module _ (most : ℕ) where
   change-within address change grows (w ∷ ws) each =
       let same : Each (IsWithin (most + 1)) (w ∷ ws) =
       each-by (w ∷ ws) (λ v is. within-more (most + 1) v (omega arith) is) each in
-      by_place address change (λ words. Each (IsWithin (most + 1)) words) w ws
+      by_place address_of nothing_at address change (λ words. Each (IsWithin (most + 1)) words) w ws
       (λ here. (grows w each.0, same.1)) (λ above. (grows _ (nothing-within address), same))
       (λ below. (same.0, change-within address change grows ws each.1))
 
@@ -192,13 +193,17 @@ can_count-passages costs ps words more can =
 
 pub length-head : (head : Option ℕ) (words : List WordCounts) → length (with_head head words) ≤ length words + 1
 length-head None words = omega arith
-length-head (Some head) words = length-change head once_more_at_head words
+length-head (Some head) words = length-change address_of nothing_at head once_more_at_head words
 
 pub length-passages : (costs : LoadCosts) (ps : List Passage) (words : List WordCounts) →
     length (with_passages costs ps words) ≤ length words + length ps
 length-passages costs [] words = omega arith
 length-passages costs (p ∷ ps) words =
-    omega (arith, length-passages costs ps words, length-change p.pc (added costs p) (with_passages costs ps words))
+    omega (
+      arith,
+      length-passages costs ps words,
+      length-change address_of nothing_at p.pc (added costs p) (with_passages costs ps words),
+    )
 
 -- a beginning is no longer than the whole
 pub take-shorter : {X : Type 0} (n : ℕ) (xs : List X) → length (take n xs) ≤ length xs

@@ -47,21 +47,7 @@ fn search(words: &[WordCounts], address: u32) -> Result<usize, usize>
     ensures found { IfOk result (λ place. IsPlaceOf address place words.now) }
     ensures absent { IfErr result (λ place. IsPlaceFor address place words.now) }
 {
-    let mut low = 0;
-    let mut high = words.len();
-    while low < high {
-        let middle = low + (high - low) / 2;
-        let here = words[middle].address;
-        if here == address {
-            return Ok(middle);
-        }
-        if here < address {
-            low = middle + 1;
-        } else {
-            high = middle;
-        }
-    }
-    Err(low)
+    words.binary_search_by_key(&address, |word| word.address)
 }
 
 // Puts in counts of an address, at which there is nothing yet.

@@ -10,3 +10,4 @@ pub mod Walk
 pub mod Shown
 pub mod EndedRun
 pub mod Followed
+pub mod ByAddress

@@ -1,6 +1,7 @@
 use Rattle.std.proofs.Common.{◌∙◌, length, refl, sym, ap, subst, set, arith}
-use Rattle.rv_causes.specs.Account.{IsWithin, with_more}
-use Rattle.rv_causes.proofs.WordChanges.{in_order-made, length-change, within-begun}
+use Rattle.rv_passage.proofs.ByAddress.{in_order-made, length-change}
+use Rattle.rv_causes.specs.Account.{IsWithin, address_of, no_cycles, with_more}
+use Rattle.rv_causes.proofs.WordChanges.{within-begun}
 use Rattle.rv_causes.proofs.WordPlaces.{within-at}
 use Rattle.rv_causes.proofs.word_cycles.Words.add.Goals as goal
 
@@ -32,13 +33,13 @@ returns-clause-few c =
     omega (
       arith,
       ap length (returns-clause-words c),
-      length-change c.args.address
+      length-change address_of no_cycles c.args.address
           (with_more c.args.cause c.args.cycles) c.args.self.now.words.items,
     )
 
 pub invariant_of-self : goal.invariant_of-self
 invariant_of-self c = record {
-  order = in_order-made c.args.address (with_more c.args.cause c.args.cycles) (λ w. refl) c.args.self.now.words.items _
+  order = in_order-made address_of no_cycles c.args.address (with_more c.args.cause c.args.cycles) (λ w. refl) (λ a. refl) c.args.self.now.words.items _
       c.place_of-place.ensures.order
       ((λ i. set c.place_of-place.new.self.words.items c.place_of-place.result
       ((c.add.ensures ∙ ap (with_more c.args.cause c.args.cycles) c.index_mut.ensures.value) i))

@@ -1,8 +1,9 @@
 use Rattle.std.proofs.Common.{◌≡◌, ◌∙◌, sym, ap, subst, set}
-use Rattle.rv_counts.specs.Counts.{CanCount, added}
+use Rattle.rv_passage.proofs.ByAddress.{in_order-made}
+use Rattle.rv_counts.specs.Order.{address_of}
+use Rattle.rv_counts.specs.Counts.{CanCount, nothing_at, added}
 use Rattle.rv_counts.specs.Following.{Profiled}
-use Rattle.rv_counts.proofs.Changes.{in_order-made}
-use Rattle.rv_counts.proofs.ProfilePlaces.{each-at}
+use Rattle.rv_counts.proofs.Changes.{each-at}
 use Rattle.rv_counts.proofs.Profiles.{added-address}
 use Rattle.rv_counts.proofs.Rooms.{can_count-begun}
 use Rattle.rv_counts.proofs.profile.Profile.add.Goals as goal
@@ -36,8 +37,8 @@ invariant_of-self c =
     let costs : c.self.inside.costs ≡ c.args.self.now.costs = ap (λ (p : Profiled). p.costs) c.self.view_is
     ∙ c.place_of-place.ensures.costs in
     let now = c.add.ensures ∙ (λ i. added (costs i) c.args.passage.now (here i)) in
-    in_order-made c.args.passage.now.pc (added c.args.self.now.costs c.args.passage.now)
-    (added-address c.args.self.now.costs c.args.passage.now) c.args.self.now.words _ c.place_of-place.ensures.order
+    in_order-made address_of nothing_at c.args.passage.now.pc (added c.args.self.now.costs c.args.passage.now)
+    (added-address c.args.self.now.costs c.args.passage.now) (λ a. refl) c.args.self.now.words _ c.place_of-place.ensures.order
     ((λ i. set (inside i) c.place_of-place.result (now i))
     ∙ sym (c.place_of-place.ensures.changes (added c.args.self.now.costs c.args.passage.now)
     c.index_mut.result.now))

@@ -1,8 +1,9 @@
 use Rattle.std.proofs.Common.{◌≡◌, ◌∙◌, refl, sym, ap, subst, set}
-use Rattle.rv_counts.specs.Counts.{CanCount, once_more_at_head}
+use Rattle.rv_passage.proofs.ByAddress.{in_order-made}
+use Rattle.rv_counts.specs.Order.{address_of}
+use Rattle.rv_counts.specs.Counts.{CanCount, nothing_at, once_more_at_head}
 use Rattle.rv_counts.specs.Following.{Profiled}
-use Rattle.rv_counts.proofs.Changes.{in_order-made}
-use Rattle.rv_counts.proofs.ProfilePlaces.{each-at}
+use Rattle.rv_counts.proofs.Changes.{each-at}
 use Rattle.rv_counts.proofs.Rooms.{can_count-begun}
 use Rattle.rv_counts.proofs.profile.Profile.add_head.Goals as goal
 
@@ -31,6 +32,6 @@ invariant_of-self c =
     ap (λ (p : Profiled). p.words) c.self.view_is in
     let here = rw inside at c.index_mut.ensures.value in
     let now = c.add_head.ensures ∙ ap once_more_at_head here in
-    in_order-made c.args.address once_more_at_head (λ w. refl) c.args.self.now.words _ c.place_of-place.ensures.order
+    in_order-made address_of nothing_at c.args.address once_more_at_head (λ w. refl) (λ a. refl) c.args.self.now.words _ c.place_of-place.ensures.order
     ((λ i. set (inside i) c.place_of-place.result (now i))
     ∙ sym (c.place_of-place.ensures.changes once_more_at_head c.index_mut.result.now))
