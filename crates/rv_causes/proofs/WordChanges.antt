@@ -1,6 +1,6 @@
 -- A change of the word at one address, and what it keeps.
-use Rattle.std.proofs.Common.{◌≡◌, ℕ, ◌+◌, ◌<◌, ◌≤◌, ◌==◌, nat_lt, Bool, true, false}
-use Rattle.std.proofs.Common.{List, [], ◌∷◌, length, refl, sym, subst, arith, inl, inr}
+use Rattle.std.proofs.Common.{◌≡◌, ℕ, ◌≤◌}
+use Rattle.std.proofs.Common.{List, [], ◌∷◌, refl, sym, subst, arith}
 use Rattle.rv_passage.proofs.ByAddress.{by_place}
 use Rattle.rv_causes.specs.Account.{AreWithin, IsWithin, address_of, no_cycles, with_change}
 use Rattle.rv_causes.specs.declared.word_cycles.WordCycles.{WordCycles}

@@ -1,6 +1,6 @@
 -- How many cycles of a path each cause has, and each word of the program.
-use Rattle.std.specs.Prelude.{◌≡◌, ℕ, ◌+◌, ◌-◌, ◌^◌, ◌<◌, ◌≤◌, ◌==◌, nat_lt}
-use Rattle.std.specs.Prelude.{if◌then◌else◌, List, [], ◌∷◌, length, replicate, slice_set}
+use Rattle.std.specs.Prelude.{◌≡◌, ℕ, ◌+◌, ◌-◌, ◌^◌, ◌<◌, ◌≤◌, ◌==◌}
+use Rattle.std.specs.Prelude.{List, [], ◌∷◌, length, replicate, slice_set}
 use Rattle.std.specs.Prelude.{sum, Option, Some, None}
 use Rattle.std.proofs.Props.{props}
 use Rattle.std.specs.Coded.{×_prop, Unit-prop}

@@ -6,12 +6,12 @@ use Rattle.rv_counts.proofs.profile.search.Goals as goal
 
 pub returns-clause-found : goal.returns-clause-found
 returns-clause-found c =
-    let facts = c.binary_search_by_key.ensures in
-    let by_key = facts.position address_of (answers_always _ _ _ (λ f a r g called. search rules)) in
-    (searched address_of c.args.address c.args.words.now c.requires.order _ facts.bound by_key).0
+    let found = c.binary_search_by_key in
+    let by_key = found.ensures.position address_of (answers_always _ _ _ (λ f a r g called. search rules)) in
+    (searched address_of c.args.address c.args.words.now c.requires.order found.result found.ensures.bound by_key).0
 
 pub returns-clause-absent : goal.returns-clause-absent
 returns-clause-absent c =
-    let facts = c.binary_search_by_key.ensures in
-    let by_key = facts.position address_of (answers_always _ _ _ (λ f a r g called. search rules)) in
-    (searched address_of c.args.address c.args.words.now c.requires.order _ facts.bound by_key).1
+    let found = c.binary_search_by_key in
+    let by_key = found.ensures.position address_of (answers_always _ _ _ (λ f a r g called. search rules)) in
+    (searched address_of c.args.address c.args.words.now c.requires.order found.result found.ensures.bound by_key).1

@@ -1,4 +1,4 @@
-use Rattle.std.proofs.Common.{◌≡◌, ◌∙◌, sym, ap, subst, set}
+use Rattle.std.proofs.Common.{◌≡◌, ◌∙◌, sym, ap, refl, subst, set}
 use Rattle.rv_passage.proofs.ByAddress.{in_order-made}
 use Rattle.rv_counts.specs.Order.{address_of}
 use Rattle.rv_counts.specs.Counts.{CanCount, nothing_at, added}
