@@ -45,6 +45,15 @@ function loadExample(name) {
   setJob(job, machines);
 }
 
+const FIRST = "lessons/prediction-bimodal";
+
+// At an address without a job the one that stands here is shown as the address says; without an address the page is as it is opened.
+function goOn() {
+  if (addressed === "") return loadExample(FIRST);
+  writeAddress();
+  run();
+}
+
 const TITLES = [["lessons/", "Lessons"], ["", "Programs"], ["explain/", "Why a run is slow, or dead"], ["c/", "Kernels from C"]];
 
 function listExamples() {
@@ -158,8 +167,9 @@ function listen() {
   }
   byId("arrivals").addEventListener("toggle", () => editors.arrivals.draw());
   addEventListener("beforeprint", printParts);
-  addEventListener("afterprint", () => document.querySelectorAll("pre.printed").forEach((each) => each.remove()));
-  addEventListener("hashchange", () => { if (location.hash !== addressed) readAddress(); });
+  addEventListener("afterprint", () => document.querySelectorAll(".printed").forEach((each) => each.remove()));
+  for (const [target, name] of [[globalThis, "pagehide"], [document, "visibilitychange"]]) target.addEventListener(name, keepLeft);
+  addEventListener("hashchange", async () => { if (location.hash !== addressed && !await readAddress()) goOn(); });
   // (from one job that the address does not hold to another one)
   addEventListener("popstate", () => { if (location.hash === TOO_LONG && addressed === TOO_LONG) readAddress(); });
   // (a job that the address does not hold would be lost)
@@ -198,7 +208,7 @@ async function start() {
   makeTabs(chooseView);
   chooseView("report", true);
   listen();
-  if (!await readAddress()) loadExample("lessons/prediction-bimodal");
+  if (!takeLeft() && !await readAddress()) loadExample(FIRST);
   document.documentElement.dataset.ready = performance.now().toFixed(0);
 }
 
