@@ -156,6 +156,7 @@ function listen() {
   byId("file").onchange = () => { if (byId("file").files[0]) openFile(byId("file").files[0]); byId("file").value = ""; };
   byId("examples").onchange = () => { refuse(""); if (byId("examples").value) { another(); loadExample(byId("examples").value); } else writeAddress(); };
   byId("machine").onchange = () => { const name = byId("machine").value; byId("machine").selectedIndex = 0; another(); loadExample(name); };
+  ["examples", "machine", "add-machine"].map(byId).forEach(openByArrows);
   byId("show-job").onclick = () => shortcut("j");
   byId("as-form").onclick = () => setForm(true);
   byId("as-text").onclick = () => setForm(false);
