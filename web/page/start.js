@@ -141,9 +141,14 @@ async function runAndShow() {
   PARTS.map((part) => byId("fault-" + part)).find((box) => !box.hidden)?.scrollIntoView({ block: "center" });
 }
 
-// An editor draws the lines that are seen: on paper each part stands whole.
+// An editor draws the lines that are seen: on paper each part stands whole, arrivals that are folded and machines to compare too.
 function printParts() {
-  for (const part of PARTS) editors[part].root.after(element("pre", { className: "printed", textContent: editors[part].text }));
+  const printed = (name, textContent) => element(name, { className: "printed", textContent });
+  for (const { root, text, area } of PARTS.map((part) => editors[part])) {
+    const folded = root.closest("details:not([open])");
+    if (!folded || text.trim() !== "") (folded || root).after(printed("pre", text || area.placeholder));
+  }
+  if (currentView.name === "compare" && furtherText() !== "") byId("shown").after(printed("h3", "Further machines"), printed("pre", furtherText()));
 }
 
 function listen() {
