@@ -23,6 +23,15 @@ function later(ms, act) {
   return () => { clearTimeout(timer); timer = setTimeout(act, ms); };
 }
 
+// The arrow keys open a list that acts on what is chosen in it: where it is closed, each of them would choose, and act, at once.
+function openByArrows(list) {
+  list.addEventListener("keydown", (event) => {
+    if (event.altKey || !/^Arrow(Up|Down)$/.test(event.key) || !list.showPicker) return;
+    event.preventDefault();
+    try { list.showPicker(); } catch { /* it stays closed */ }
+  });
+}
+
 // save(name, bytes): hands a file to the one who looks at the page
 function save(name, bytes) {
   const url = URL.createObjectURL(new Blob([bytes], { type: "application/octet-stream" }));

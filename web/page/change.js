@@ -62,7 +62,7 @@ const UNJUDGED = ["retired", "traps", "interrupts", "busy"];
 function changedBy(name, by, most) {
   if (!Number.isFinite(by) || by === 0) return "";
   const text = name === "cpi" ? (by > 0 ? "+" : "\u2212") + Math.abs(by).toFixed(3) : signed(by);
-  const bar = element("span", { className: "bar" + (UNJUDGED.includes(name) ? "" : by < 0 ? " less" : " more"), style: "width: " + (5 * Math.abs(by)) / most + "rem" });
+  const bar = element("span", { className: "bar" + (UNJUDGED.includes(name) ? "" : by < 0 ? " less" : " more"), style: "width: calc(" + (Math.abs(by) / most).toFixed(4) + " * var(--longest))" });
   return element("span", { className: "by" }, bar, text);
 }
 

@@ -2,18 +2,21 @@
 const furtherText = () => editors.machines.text;
 const comparedInput = (job) => comparison(job, furtherText());
 
+const MOST_MACHINES = 64; // that the program compares, the job's own among them
+
 function addMachines(texts) {
-  const before = furtherIn(furtherText());
-  if (texts.length === 0) return;
-  editors.machines.text = (before === undefined ? "" : ended(before) + "%%\n") + texts.map(ended).join("%%\n");
-  jobChanged();
+  const before = furtherIn(furtherText()), room = Math.max(0, MOST_MACHINES - machinesOf(jobNow(), furtherText()).length), added = texts.slice(0, room);
+  if (added.length > 0) {
+    editors.machines.text = (before === undefined ? "" : ended(before) + "%%\n") + added.map(ended).join("%%\n");
+    jobChanged();
+  }
+  if (added.length < texts.length) refuse("Of " + counted(texts.length, "machine") + " " + added.length + " were added: " + MOST_MACHINES + " are compared at most, the job's own among them.");
 }
 
 // A machine for each value of a key, where each else is the job's own.
 function addValues(key, values) {
   const description = editors.description.text.replace(/^# name:.*\n/, "");
-  const texts = values.map((value) => "# name: " + key + " = " + value + "\n" + withKey(description, key, value));
-  addMachines(texts.slice(0, 63));
+  addMachines(values.map((value) => "# name: " + key + " = " + value + "\n" + withKey(description, key, value)));
 }
 
 // Values to begin with: a key's choices, or some around its default.
@@ -47,7 +50,7 @@ function makeComparison() {
   const values = () => byId("sweep-values").value.split(/[\s,]+/).filter(Boolean).map(value);
   byId("sweep").onclick = () => addValues(byId("sweep-key").value, values());
   byId("sweep-values").onkeydown = (event) => { if (event.key === "Enter" && !event.ctrlKey) byId("sweep").click(); };
-  byId("no-machines").onclick = () => { editors.machines.text = ""; jobChanged(); };
+  byId("no-machines").onclick = () => { if (furtherText() !== "") another(); editors.machines.text = ""; jobChanged(); };
 }
 
 function machinesOf(job, machines) {

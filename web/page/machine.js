@@ -58,6 +58,8 @@ class MachineForm {
     field.dataset.key = row.key;
     const event = row.choices ? "change" : "input";
     field.addEventListener(event, () => write(row.key, this.typed(row, field.value)));
+    // (one that is left empty has the default)
+    if (!row.choices) field.addEventListener("blur", () => { if (field.value.trim() === "") field.value = row.default; });
     this.fields.set(row.key, { field, row });
     return field;
   }

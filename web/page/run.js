@@ -92,8 +92,10 @@ function showSummary(report, ms) {
     element("b", { textContent: grouped(counts.get("cycles")) }), " cycles ", element("b", { textContent: grouped(counts.get("retired")) }), " retired ",
     element("b", { textContent: counts.get("cpi") }), " CPI", ...(why ? [" ", element("em", { textContent: why })] : []), ...(isCut ? waysOn() : []));
   byId("changed").textContent = changeText();
-  say("Done in " + Math.max(1, Math.round(ms)) + " ms.");
+  sayDone(ms);
 }
+
+const sayDone = (ms) => say("Done in " + Math.max(1, Math.round(ms)) + " ms.");
 
 // Runs the job, and shows it by the chosen tab. While one types and nothing is to run by itself, it is checked alone.
 async function run(isTyped) {
@@ -110,25 +112,35 @@ async function run(isTyped) {
     if (isGood) say("The program takes the job. Run it to see it.");
     return;
   }
-  const made = await wholeRun(text), why = trouble(made);
+  const key = keyOf(wordsOf(viewNamed("report")), text), made = await wholeRun(text), why = trouble(made);
   if (mine !== turn) return;
   if (why !== "" || made.status === 1) {
     say(why || textOf(made.errors).trim(), true);
     return setBusy(false);
   }
-  results = new Map();
+  results = new Map([[key, made]]);
   remember(job, textOf(made.output));
   setStale(false);
   showSummary(textOf(made.output), made.ms);
   await showView(mine);
 }
 
+const keyOf = (words, text) => words.join(" ") + "\n" + text;
+
+// A bar that says of no time how much of it is over: how long a tab's command takes is not known.
+function awaitTab(view) {
+  byId("progress").hidden = false;
+  byId("progress").removeAttribute("value");
+  say("Running " + view.title + ", for at most " + MOST_SECONDS + " s");
+}
+
 // What the chosen tab's command prints of the job; kept until the job changes.
 async function resultOf(view, mine) {
-  const words = wordsOf(view), text = view.input ? view.input(jobNow()) : joined(jobNow()), key = words.join(" ") + "\n" + text;
+  const words = wordsOf(view), text = view.input ? view.input(jobNow()) : joined(jobNow()), key = keyOf(words, text);
   if (results.has(key)) return results.get(key);
   setBusy(true);
-  const made = await runner.call(words, text);
+  const waiting = setTimeout(() => { if (mine === turn) awaitTab(view); }, 300), made = await runner.call(words, text);
+  clearTimeout(waiting);
   if (mine === turn) setBusy(false);
   if (made.status !== undefined && !made.cut) results.set(key, made);
   return made;
@@ -152,6 +164,7 @@ async function showView(given) {
   setBusy(false);
   const why = trouble(made) || (made.status === 1 ? (view.refused || String)(textOf(made.errors).trim()) : "");
   if (why !== "") { byId("shown").append(element("p", { className: "note fault", textContent: why })); say(why, true); }
+  else sayDone(made.ms);
   if (why === "" || made.cut) await view.show(made);
   document.documentElement.dataset.shown = view.name;
   document.documentElement.dataset.turn = mine;

@@ -1,7 +1,7 @@
 // The address holds the job, as long as it is not too long for that: so a link shares it, and going back or loading again loses nothing. One
 // that is too long stands in the state of its place in the browser's history, to which going back leads as well.
 // After #: example=NAME or job=DEFLATED, machines=DEFLATED, view, limit, from, cycles of a view, its switches, cycle, follow and path.
-let exampleName = "", addressed = "", isAnother = false, isWritten = true;
+let exampleName = "", addressed = "", isAnother = false, isWritten = true, isAwaited = false;
 
 // Another job takes the place of the one that stands here, which is then one step back: also where the address has it not, or not yet.
 function another() {
@@ -12,10 +12,11 @@ function another() {
   [isAnother, isWritten] = [true, true];
 }
 
-const stateNow = () => ({ job: jobNow(), machines: furtherText() });
+const stateNow = () => ({ job: jobNow(), machines: furtherText(), words: optionWords().join("&") });
 
+// What the address says beside the job.
 function optionWords() {
-  const words = [];
+  const words = currentView.name === "report" ? [] : ["view=" + currentView.name];
   if (limit() !== 100000) words.push("limit=" + limit());
   for (const option of currentView.options || []) {
     const { key, value } = optionOf(currentView, option);
@@ -26,28 +27,50 @@ function optionWords() {
   return words;
 }
 
+// The example that the job is, if it is one.
+const exampleNow = () => (EXAMPLES[exampleName] !== undefined && isUnchanged(exampleName, jobNow()) ? exampleName : "");
+
 async function addressOf() {
-  const job = jobNow(), example = EXAMPLES[exampleName], words = [];
-  const isExample = example !== undefined && isUnchanged(exampleName, job);
-  byId("examples").value = isExample ? exampleName : "";
-  document.title = "rv_sim: " + (isExample ? exampleName : "a job");
-  words.push(isExample ? "example=" + exampleName : "job=" + await deflated(joined(job)));
-  if (!isExample && furtherText() !== "") words.push("machines=" + await deflated(furtherText()));
-  if (currentView.name !== "report") words.push("view=" + currentView.name);
+  const job = jobNow(), example = exampleNow(), words = [];
+  byId("examples").value = example;
+  document.title = "rv_sim: " + (example || "a job");
+  words.push(example ? "example=" + example : "job=" + await deflated(joined(job)));
+  if (!example && furtherText() !== "") words.push("machines=" + await deflated(furtherText()));
   return "#" + [...words, ...optionWords()].join("&");
 }
 
-const writeAddress = later(400, async () => {
+const writeSoon = later(400, async () => {
   const address = await addressOf();
   // (an address that was changed by hand is read, and not written over)
-  if (address === addressed || location.hash !== addressed) { [isAnother, isWritten] = [false, true]; return; }
+  if (address === addressed || location.hash !== addressed) { [isAnother, isWritten, isAwaited] = [false, true, false]; return; }
   if (!putAddress(address.length <= KEPT_ADDRESS ? address : TOO_LONG)) setTimeout(writeAddress, 10000);
 });
+
+function writeAddress() { isAwaited = true; writeSoon(); }
+
+// What the address does not say yet when the page is left, as by loading it again at once, waits in the tab's own store for the same address.
+const LEFT = "rv_sim";
+
+function keepLeft() {
+  try {
+    if (isAwaited) sessionStorage.setItem(LEFT, JSON.stringify({ address: location.hash, example: exampleNow(), isAnother, ...stateNow() }));
+    else sessionStorage.removeItem(LEFT);
+  } catch { /* a browser may have no store for a page */ }
+}
+
+function takeLeft() {
+  let left = null;
+  try { left = JSON.parse(sessionStorage.getItem(LEFT)); sessionStorage.removeItem(LEFT); } catch { /* as above */ }
+  if (!left || left.address !== location.hash) return false;
+  [addressed, isAnother, isWritten] = [location.hash, left.isAnother, false];
+  takeState(left);
+  return true;
+}
 
 // Answers whether the browser took the address: one that was asked too often refuses for a while (WebKit after 100 times in 10 seconds).
 function putAddress(address) {
   try { history[isAnother ? "pushState" : "replaceState"](address === TOO_LONG ? stateNow() : null, "", address); } catch { return false; }
-  [addressed, isAnother, isWritten] = [address, false, true];
+  [addressed, isAnother, isWritten, isAwaited] = [address, false, true, false];
   return true;
 }
 
@@ -76,12 +99,11 @@ async function readAddress() {
   [addressed, isAnother, isWritten] = [location.hash, false, true];
   refuse("");
   if (addressed === TOO_LONG) return readState();
-  if (text === "") return false;
   if (text.length > MOST_ADDRESS) {
     refuse("The address was refused: it has " + counted(text.length, "character") + ", and " + grouped(MOST_ADDRESS) + " are read.");
     return false;
   }
-  const words = new Map(text.split("&").map((word) => { const at = word.indexOf("="); return at < 0 ? [word, ""] : [word.slice(0, at), word.slice(at + 1)]; }));
+  const words = wordsIn(text);
   readOptions(words);
   const name = plainName(words.get("example") || "");
   if (name !== "") {
@@ -100,18 +122,25 @@ async function readAddress() {
   }
 }
 
+const wordsIn = (text) => new Map(text.split("&").map((word) => { const at = word.indexOf("="); return at < 0 ? [word, ""] : [word.slice(0, at), word.slice(at + 1)]; }));
+
 function plainName(text) { try { return decodeURIComponent(text); } catch { return text; } }
 
 // A job that is too long for the address, from the history of the tab.
 function readState() {
   if (!history.state) { refuse("The job that stood here was too long for the address, and is not kept. Save such a job as a file."); return false; }
-  takeJob(history.state.job, history.state.machines);
+  takeState(history.state);
   return true;
 }
 
-function takeJob(job, machines) {
-  exampleName = "";
-  byId("examples").selectedIndex = 0;
+function takeState({ job, machines, words = "", example = "" }) {
+  readOptions(wordsIn(words));
+  takeJob(job, machines, example);
+}
+
+function takeJob(job, machines, example = "") {
+  exampleName = example;
+  byId("examples").value = example;
   forget();
   setJob(job, machines);
 }

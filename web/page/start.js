@@ -45,6 +45,15 @@ function loadExample(name) {
   setJob(job, machines);
 }
 
+const FIRST = "lessons/prediction-bimodal";
+
+// At an address without a job the one that stands here is shown as the address says; without an address the page is as it is opened.
+function goOn() {
+  if (addressed === "") return loadExample(FIRST);
+  writeAddress();
+  run();
+}
+
 const TITLES = [["lessons/", "Lessons"], ["", "Programs"], ["explain/", "Why a run is slow, or dead"], ["c/", "Kernels from C"]];
 
 function listExamples() {
@@ -132,9 +141,14 @@ async function runAndShow() {
   PARTS.map((part) => byId("fault-" + part)).find((box) => !box.hidden)?.scrollIntoView({ block: "center" });
 }
 
-// An editor draws the lines that are seen: on paper each part stands whole.
+// An editor draws the lines that are seen: on paper each part stands whole, arrivals that are folded and machines to compare too.
 function printParts() {
-  for (const part of PARTS) editors[part].root.after(element("pre", { className: "printed", textContent: editors[part].text }));
+  const printed = (name, textContent) => element(name, { className: "printed", textContent });
+  for (const { root, text, area } of PARTS.map((part) => editors[part])) {
+    const folded = root.closest("details:not([open])");
+    if (!folded || text.trim() !== "") (folded || root).after(printed("pre", text || area.placeholder));
+  }
+  if (currentView.name === "compare" && furtherText() !== "") byId("shown").after(printed("h3", "Further machines"), printed("pre", furtherText()));
 }
 
 function listen() {
@@ -147,6 +161,7 @@ function listen() {
   byId("file").onchange = () => { if (byId("file").files[0]) openFile(byId("file").files[0]); byId("file").value = ""; };
   byId("examples").onchange = () => { refuse(""); if (byId("examples").value) { another(); loadExample(byId("examples").value); } else writeAddress(); };
   byId("machine").onchange = () => { const name = byId("machine").value; byId("machine").selectedIndex = 0; another(); loadExample(name); };
+  ["examples", "machine", "add-machine"].map(byId).forEach(openByArrows);
   byId("show-job").onclick = () => shortcut("j");
   byId("as-form").onclick = () => setForm(true);
   byId("as-text").onclick = () => setForm(false);
@@ -158,8 +173,9 @@ function listen() {
   }
   byId("arrivals").addEventListener("toggle", () => editors.arrivals.draw());
   addEventListener("beforeprint", printParts);
-  addEventListener("afterprint", () => document.querySelectorAll("pre.printed").forEach((each) => each.remove()));
-  addEventListener("hashchange", () => { if (location.hash !== addressed) readAddress(); });
+  addEventListener("afterprint", () => document.querySelectorAll(".printed").forEach((each) => each.remove()));
+  for (const [target, name] of [[globalThis, "pagehide"], [document, "visibilitychange"]]) target.addEventListener(name, keepLeft);
+  addEventListener("hashchange", async () => { if (location.hash !== addressed && !await readAddress()) goOn(); });
   // (from one job that the address does not hold to another one)
   addEventListener("popstate", () => { if (location.hash === TOO_LONG && addressed === TOO_LONG) readAddress(); });
   // (a job that the address does not hold would be lost)
@@ -198,7 +214,7 @@ async function start() {
   makeTabs(chooseView);
   chooseView("report", true);
   listen();
-  if (!await readAddress()) loadExample("lessons/prediction-bimodal");
+  if (!takeLeft() && !await readAddress()) loadExample(FIRST);
   document.documentElement.dataset.ready = performance.now().toFixed(0);
 }
 

@@ -47,7 +47,12 @@ function wordsOf(view) {
   return view.limit ? [...words, "--limit", String(limit())] : words;
 }
 
-const whole = (text, least, most, otherwise) => (/^\d+$/.test(text) ? Math.max(least, Math.min(most, Number(text))) : otherwise);
+// The whole number that is meant, or the nearest that may stand there: a field of numbers takes 1e3, -5 and 2.5 too.
+function whole(text, least, most, otherwise) {
+  const number = text.trim() === "" ? NaN : Math.trunc(Number(text));
+  return Number.isFinite(number) ? Math.max(least, Math.min(most, number)) : otherwise;
+}
+
 const MOST_CYCLES = 1000000;
 const limit = () => whole(byId("limit").value, 1, MOST_CYCLES, 100000);
 
