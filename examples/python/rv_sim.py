@@ -409,7 +409,8 @@ def read_job():
     if sys.stdin is None:
         raise OSError(errno.EBADF, os.strerror(errno.EBADF))
     if sys.stdin.isatty():
-        print(f"{Path(sys.argv[0]).name}: reads standard input; end it with Ctrl-D, or: .. < FILE", file=sys.stderr)
+        name = Path(sys.argv[0]).name
+        print(f"{name}: reads standard input; end it with Ctrl-D, or: {name} < FILE", file=sys.stderr)
     return sys.stdin.buffer.read().decode(errors="surrogateescape")
 
 
