@@ -159,7 +159,10 @@ def job(assembly, description=None, arrivals=None):
 
 
 def started(words, text):
-    return subprocess.run([program(), *map(str, words)], input=text.encode(errors="surrogateescape"), capture_output=True, check=False)
+    try:
+        return subprocess.run([program(), *map(str, words)], input=text.encode(errors="surrogateescape"), capture_output=True, check=False)
+    except OSError as fault:
+        raise Failed(f"error: no program is at {program()}: {fault.strerror}", 1) from None
 
 
 def call(words, text):
@@ -200,9 +203,10 @@ def explain(assembly, description=None, *, arrivals=None, limit=None):
     return call(["explain", *limit_words(limit)], job(assembly, description, arrivals)).splitlines()
 
 
-def profile(assembly, description=None, *, arrivals=None, limit=None):
-    """The rows of `profile`, as dictionaries: numbers as numbers, None where the table has a hyphen or nothing; the statement is a text."""
-    return numbers(read_table(call(["profile", *limit_words(limit)], job(assembly, description, arrivals))))
+def profile(assembly, description=None, *, arrivals=None, limit=None, path=False):
+    """The rows of `profile`, as dictionaries: numbers as numbers, None where the table has a hyphen or nothing; the statement is a text.
+    With `path` they have the cycles on the critical path too."""
+    return numbers(read_table(call(["profile", *["--path"] * path, *limit_words(limit)], job(assembly, description, arrivals))))
 
 
 PATH_LINES = "The lines of the program with the most cycles on the path:"
@@ -404,6 +408,9 @@ def read_job():
     """The job on a script's standard input."""
     if sys.stdin is None:
         raise OSError(errno.EBADF, os.strerror(errno.EBADF))
+    if sys.stdin.isatty():
+        name = Path(sys.argv[0]).name
+        print(f"{name}: reads standard input; end it with Ctrl-D, or: {name} < FILE", file=sys.stderr)
     return sys.stdin.buffer.read().decode(errors="surrogateescape")
 
 

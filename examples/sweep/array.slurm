@@ -14,4 +14,5 @@ fi
 program=$1
 shift
 descriptions=("$@")
+: "${SLURM_ARRAY_TASK_ID:?is set in a task of an array: sbatch --array=.. starts one}"
 examples/sweep/sweep --one "${options[@]}" "$program" "${descriptions[$SLURM_ARRAY_TASK_ID]}"

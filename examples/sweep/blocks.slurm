@@ -12,4 +12,5 @@
 #
 # An array has at most 1001 tasks where Slurm's MaxArraySize does not say otherwise. Of more blocks the others are counted from a number
 # after the folder on: sbatch --array=0-499 examples/sweep/blocks.slurm FOLDER 1000
+: "${SLURM_ARRAY_TASK_ID:?is set in a task of an array: sbatch --array=.. starts one}"
 examples/sweep/table --block "$1" $((${2:-0} + SLURM_ARRAY_TASK_ID))
