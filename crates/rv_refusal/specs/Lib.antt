@@ -6,6 +6,7 @@ pub mod Definition
 pub mod Described
 pub mod EntryLine
 pub mod Expected
+pub mod ForeignName
 pub mod Further
 pub mod HeldName
 pub mod Hint
@@ -14,10 +15,12 @@ pub mod KeyHint
 pub mod KeyLine
 pub mod KeyNames
 pub mod Lines
+pub mod NameHint
 pub mod NameOn
 pub mod NameSet
 pub mod Names
 pub mod Near
+pub mod OperandHint
 pub mod Operands
 pub mod OrElse
 pub mod Place
