@@ -8,7 +8,7 @@ use Rattle.rv_asm.specs.declared.fault.AsmFault.TheVariants as fault
 use Rattle.rv_refusal.specs.ByteHint.{bytes_hint}
 use Rattle.rv_refusal.specs.NameHint.{statement_hint}
 use Rattle.rv_refusal.specs.Names.{unknown_name}
-use Rattle.rv_refusal.specs.OperandHint.{operands_hint, range_hint, register_hint}
+use Rattle.rv_refusal.specs.OperandHint.{operands_hint, range_hint, register_hint, target_hint}
 use Rattle.rv_refusal.specs.Statement.{first_name}
 
 -- what to write in place of a statement at fault, where these symbols are defined
@@ -17,6 +17,7 @@ body_hint fault.UnknownMnemonic defined body = statement_hint body
 body_hint fault.UnknownSymbol defined body =
     option_map_or register_hint (unknown_name fault.UnknownSymbol defined body) []
 body_hint fault.BadOperands defined body = operands_hint defined body
+body_hint fault.BadRegister defined body = target_hint body
 body_hint fault.OutOfRange defined body = option_map_or range_hint (first_name body) []
 body_hint _ defined body = []
 

@@ -1,6 +1,7 @@
 pub mod Arrivals
 pub mod ByteHint
 pub mod Caret
+pub mod Counterpart
 pub mod Culprit
 pub mod Definition
 pub mod Described

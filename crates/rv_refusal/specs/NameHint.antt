@@ -4,9 +4,11 @@ use Rattle.std.specs.{Option.option_map_or}
 use Rattle.rv_asm.specs.Mnemonic.{form_named}
 use Rattle.rv_asm.specs.Token.{Token}
 use Rattle.rv_asm.specs.Token as token
-use Rattle.rv_refusal.specs.ForeignName.{directive_hint}
+use Rattle.rv_refusal.specs.Counterpart.{counterpart}
+use Rattle.rv_refusal.specs.ForeignName.{foreign_hint}
 use Rattle.rv_refusal.specs.NameOn.{begins_with}
-use Rattle.rv_refusal.specs.Near.{counterpart, in_small_letters}
+use Rattle.rv_refusal.specs.Near.{in_small_letters}
+use Rattle.rv_refusal.specs.OrElse.{or_else}
 use Rattle.rv_refusal.specs.Statement.{first_name}
 
 -- a name at the front reads as a label without its colon: it stands alone, or a statement follows it
@@ -26,9 +28,13 @@ label_hint name body =
     else (if reads_as_label body then codes "hint: a label has a colon after it, as in " ++ (name ++ codes ":\n")
     else [])
 
+-- what to write in place of a statement with a name that no other assembler has, either: a directive has no hint
+abbrev pub unknown_hint : List Token → List ℕ → List ℕ
+unknown_hint body name = if begins_with 46 name then [] else label_hint name body
+
 -- what to write in place of a statement with an unknown name
 abbrev pub name_hint : List Token → List ℕ → List ℕ
-name_hint body name = if begins_with 46 name then directive_hint name else label_hint name body
+name_hint body name = or_else (foreign_hint name) (unknown_hint body name)
 
 -- what to write in place of a statement whose name is unknown or that has none
 unfoldable pub statement_hint : List Token → List ℕ

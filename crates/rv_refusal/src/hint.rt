@@ -3,10 +3,10 @@ ghost use Rattle.rv_asm.specs.Read.{tokens_in};
 ghost use Rattle.rv_refusal.specs.Hint.{body_hint, hint};
 ghost use Rattle.rv_refusal.specs.NameSet.{holds};
 
-use crate::byte_hint::bytes_hint;
+use crate::byte_hint::add_bytes_hint;
 use crate::name_hint::add_statement_hint;
 use crate::name_set::NameSet;
-use crate::operand_hint::{add_operands_hint, add_register_hint, range_hint};
+use crate::operand_hint::{add_operands_hint, add_register_hint, range_hint, target_hint};
 use crate::statement::{after_labels, first_name};
 use crate::text::add_text;
 use crate::unknown::unknown_name;
@@ -32,6 +32,7 @@ fn add_body_hint(
             None => Ok(()),
         },
         AsmFault::BadOperands => add_operands_hint(out, defined, body),
+        AsmFault::BadRegister => add_text(out, target_hint(body)),
         AsmFault::OutOfRange => match first_name(body) {
             Some(name) => add_text(out, range_hint(name)),
             None => Ok(()),
@@ -56,7 +57,7 @@ pub(crate) fn add_hint(
         ≡ out.old.items ++ hint before fault (holds defined.now) line.now (tokens_in tokens.now)) }
 {
     match fault {
-        AsmFault::BadToken => add_text(out, bytes_hint(before, line)),
+        AsmFault::BadToken => add_bytes_hint(alloc, out, before, line),
         _ => add_body_hint(alloc, out, fault, defined, after_labels(tokens)),
     }
 }

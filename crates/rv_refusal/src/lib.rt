@@ -7,6 +7,7 @@ mod arrivals;
 mod assembly;
 mod byte_hint;
 mod caret;
+mod counterpart;
 mod culprit;
 mod definition;
 mod described;

@@ -1,11 +1,12 @@
 ghost use Rattle.std.specs.Prelude.{◌≡◌, ◌++◌, IfOk, OnOk};
 ghost use Rattle.rv_asm.specs.Read.{tokens_in};
 ghost use Rattle.rv_refusal.specs.NameHint.{is_known_otherwise, label_hint, name_hint, reads_as_label, statement_hint};
+ghost use Rattle.rv_refusal.specs.NameHint.{unknown_hint};
 
-use crate::foreign_name::directive_hint;
+use crate::counterpart::counterpart;
+use crate::foreign_name::foreign_hint;
 use crate::name_on::begins_with;
 use crate::text::{add_all, add_text};
-use crate::unknown::counterpart;
 use rv_asm::{Token, form_named};
 use std::alloc::{AllocError, Global};
 
@@ -53,6 +54,21 @@ fn add_label_hint(
     )
 }
 
+// Appends what to write in place of a statement with a name that no other assembler has, either.
+fn add_unknown_hint(
+    alloc: Global,
+    out: &mut Vec<u8>,
+    body: &[Token<'_>],
+    name: &[u8],
+) -> Result<(), AllocError>
+    ensures { OnOk result (out.new.items ≡ out.old.items ++ unknown_hint (tokens_in body.now) name.now) }
+{
+    if begins_with(b'.', name) {
+        return Ok(());
+    }
+    add_label_hint(alloc, out, name, body)
+}
+
 // Appends what to write in place of a statement with an unknown name.
 fn add_name_hint(
     alloc: Global,
@@ -62,11 +78,11 @@ fn add_name_hint(
 ) -> Result<(), AllocError>
     ensures { OnOk result (out.new.items ≡ out.old.items ++ name_hint (tokens_in body.now) name.now) }
 {
-    if begins_with(b'.', name) {
-        add_text(out, directive_hint(name))
-    } else {
-        add_label_hint(alloc, out, name, body)
+    let hint = foreign_hint(name);
+    if hint.is_empty() {
+        return add_unknown_hint(alloc, out, body, name);
     }
+    add_text(out, hint)
 }
 
 /// Appends what to write in place of a statement whose name is unknown or that has none.

@@ -1,14 +1,17 @@
 ghost use Rattle.std.specs.Prelude.{◌≡◌, ◌++◌, OnOk, map};
 ghost use Rattle.rv_asm.specs.Read.{token_of, tokens_in};
 ghost use Rattle.rv_refusal.specs.NameSet.{holds};
-ghost use Rattle.rv_refusal.specs.OperandHint.{accesses_memory, address_hint, bare_statements, begins_with_number};
-ghost use Rattle.rv_refusal.specs.OperandHint.{is_word, lacks_closing, lacks_comma, lacks_opening};
-ghost use Rattle.rv_refusal.specs.OperandHint.{lacks_parenthesis, nothing_hint, offset_hint, operand_hint};
-ghost use Rattle.rv_refusal.specs.OperandHint.{operands_hint, products, range_hint, register_hint};
-ghost use Rattle.rv_refusal.specs.OperandHint.{takes_offset, with_number, written_hint};
+ghost use Rattle.rv_refusal.specs.OperandHint.{accesses_memory, address_hint, bare_statements, begins_with_address};
+ghost use Rattle.rv_refusal.specs.OperandHint.{begins_with_number, begins_with_registers, is_ended, is_reversed};
+ghost use Rattle.rv_refusal.specs.OperandHint.{is_word, jump_hint, jumps_to_name, lacks_closing, lacks_comma};
+ghost use Rattle.rv_refusal.specs.OperandHint.{lacks_opening, lacks_parenthesis, load_hint, loaded_hint, named_hint, nothing_hint};
+ghost use Rattle.rv_refusal.specs.OperandHint.{number_hint, offset_hint, operand_hint, operands_hint, products};
+ghost use Rattle.rv_refusal.specs.OperandHint.{range_hint, register_hint, reversed_hint, stands_before_another};
+ghost use Rattle.rv_refusal.specs.OperandHint.{takes_offset, target_hint, with_number, written_hint};
 
 use crate::culprit::operand_of_fault;
 use crate::key_line::is_among;
+use crate::name_on::begins_with;
 use crate::name_set::NameSet;
 use crate::names::registers;
 use crate::statement::first_name;
@@ -74,14 +77,54 @@ fn lacks_comma(operand: &[Token<'_>]) -> bool
     }
 }
 
-// Whether a number stands at the front.
+// Whether nothing is left of an operand.
+fn is_ended(rest: &[Token<'_>]) -> bool
+    ensures { result ≡ is_ended (tokens_in rest.now) }
+{
+    matches!(rest, [] | [Token::Comma, ..])
+}
+
+// Whether the operand at the front is a number.
 fn begins_with_number(operand: &[Token<'_>]) -> bool
     ensures { result ≡ begins_with_number (tokens_in operand.now) }
 {
+    match operand {
+        [Token::Number(_), rest @ ..] | [Token::Minus, Token::Number(_), rest @ ..] => {
+            is_ended(rest)
+        }
+        _ => false,
+    }
+}
+
+// Whether a number and another operand after it stand at the front.
+fn stands_before_another(operand: &[Token<'_>]) -> bool
+    ensures { result ≡ stands_before_another (tokens_in operand.now) }
+{
     matches!(
         operand,
-        [Token::Number(_), ..] | [Token::Minus, Token::Number(_), ..]
+        [Token::Number(_), Token::Comma, ..] | [Token::Minus, Token::Number(_), Token::Comma, ..]
     )
+}
+
+// Whether an instruction takes registers before its symbol or its address: a branch on two of them, and a store.
+fn begins_with_registers(name: &[u8]) -> bool
+    ensures { result ≡ begins_with_registers name.now }
+{
+    is_among(
+        name,
+        &[
+            b"beq", b"bne", b"blt", b"bge", b"bltu", b"bgeu", b"bgt", b"ble", b"bgtu", b"bleu",
+            b"sb", b"sh", b"sw",
+        ],
+    )
+}
+
+// That a number is loaded into a register first.
+#[tactic(auto, unfolding(crate::specs::OperandHint::loaded_hint))]
+fn loaded_hint() -> &'static [u8]
+    ensures { result.now ≡ loaded_hint }
+{
+    b"hint: a register stands here: li t0, 5 loads 5 into t0, and zero is a register that holds 0\n"
 }
 
 // Appends what an instruction on registers is with a number in the place of one.
@@ -92,7 +135,8 @@ fn add_with_number(out: &mut Vec<u8>, name: &[u8]) -> Result<(), AllocError>
     if is_among(
         name,
         &[
-            b"add", b"and", b"or", b"xor", b"slt", b"sll", b"srl", b"sra",
+            b"add", b"and", b"or", b"xor", b"slt", b"sll", b"srl", b"sra", b"csrw", b"csrs",
+            b"csrc", b"csrrw", b"csrrs", b"csrrc",
         ],
     ) {
         return add_all(out, &[b"hint: with a number it is ", name, b"i\n"]);
@@ -103,7 +147,7 @@ fn add_with_number(out: &mut Vec<u8>, name: &[u8]) -> Result<(), AllocError>
             b"hint: with a number it is addi, and the number has the other sign\n",
         );
     }
-    if name == b"mv".as_slice() {
+    if is_among(name, &[b"mv", b"la"]) {
         return add_text(out, b"hint: with a number it is li\n");
     }
     if is_among(name, products()) {
@@ -111,6 +155,20 @@ fn add_with_number(out: &mut Vec<u8>, name: &[u8]) -> Result<(), AllocError>
             out,
             b"hint: it takes registers alone: li loads a number into one\n",
         );
+    }
+    Ok(())
+}
+
+// Appends what to write in place of a number.
+#[tactic(auto, unfolding(crate::specs::OperandHint::number_hint))]
+fn add_number_hint(out: &mut Vec<u8>, name: &[u8], operand: &[Token<'_>]) -> Result<(), AllocError>
+    ensures { OnOk result (out.new.items ≡ out.old.items ++ number_hint name.now (tokens_in operand.now)) }
+{
+    if !begins_with_registers(name) {
+        return add_with_number(out, name);
+    }
+    if stands_before_another(operand) {
+        return add_text(out, loaded_hint());
     }
     Ok(())
 }
@@ -132,14 +190,22 @@ fn takes_offset(name: &[u8]) -> bool
     accesses_memory(name) || name == b"jalr".as_slice()
 }
 
-// Whether a name stands after a number, without the parenthesis between them.
+// Whether a name stands after a number, with a comma or nothing in the place of the parenthesis between them.
 fn lacks_opening(operand: &[Token<'_>]) -> bool
     ensures { result ≡ lacks_opening (tokens_in operand.now) }
 {
     matches!(
         operand,
         [Token::Number(_), Token::Name(_), ..]
+            | [Token::Number(_), Token::Comma, Token::Name(_), ..]
             | [Token::Minus, Token::Number(_), Token::Name(_), ..]
+            | [
+                Token::Minus,
+                Token::Number(_),
+                Token::Comma,
+                Token::Name(_),
+                ..
+            ]
     )
 }
 
@@ -152,6 +218,37 @@ fn lacks_closing(operand: &[Token<'_>]) -> bool
         [Token::LeftParenthesis, Token::Name(_)]
             | [Token::Number(_), Token::LeftParenthesis, Token::Name(_)]
     )
+}
+
+// Whether an offset with a register and another operand after it stand at the front.
+fn begins_with_address(operand: &[Token<'_>]) -> bool
+    ensures { result ≡ begins_with_address (tokens_in operand.now) }
+{
+    matches!(
+        operand,
+        [
+            Token::LeftParenthesis,
+            Token::Name(_),
+            Token::RightParenthesis,
+            Token::Comma,
+            ..
+        ] | [
+            Token::Number(_),
+            Token::LeftParenthesis,
+            Token::Name(_),
+            Token::RightParenthesis,
+            Token::Comma,
+            ..
+        ]
+    )
+}
+
+// That a load or a store has its register first.
+#[tactic(auto, unfolding(crate::specs::OperandHint::reversed_hint))]
+fn reversed_hint() -> &'static [u8]
+    ensures { result.now ≡ reversed_hint }
+{
+    b"hint: the register stands before offset(register), as in sw a0, 8(sp)\n"
 }
 
 // Whether an offset with a register lacks a parenthesis.
@@ -181,6 +278,57 @@ fn address_hint(name: &[u8]) -> &'static [u8]
     }
 }
 
+// What to write in place of a name where jalr has an offset with a register.
+#[tactic(auto, unfolding(crate::specs::OperandHint::jump_hint))]
+fn jump_hint(name: &[u8]) -> &'static [u8]
+    ensures { result.now ≡ jump_hint name.now }
+{
+    if is_among(name, registers()) {
+        b"hint: it jumps to offset(register), as in jalr ra, 0(t0)\n"
+    } else {
+        b"hint: jal and call take a symbol, and jalr a register\n"
+    }
+}
+
+// What to write in place of a name where li has a number; one that begins with $ may be meant as a number.
+#[tactic(auto, unfolding(crate::specs::OperandHint::load_hint))]
+fn load_hint(name: &[u8]) -> &'static [u8]
+    ensures { result.now ≡ load_hint name.now }
+{
+    if is_among(name, registers()) {
+        return b"hint: with a register it is mv\n";
+    }
+    if begins_with(b'$', name) {
+        b""
+    } else {
+        b"hint: la loads the address of a label; a line .equ stands above each use of its name\n"
+    }
+}
+
+// What to write in place of a name at the front of an operand.
+#[tactic(auto, unfolding(crate::specs::OperandHint::named_hint))]
+fn named_hint(name: &[u8], other: &[u8]) -> &'static [u8]
+    ensures { result.now ≡ named_hint name.now other.now }
+{
+    if accesses_memory(name) {
+        return address_hint(other);
+    }
+    if name == b"jalr".as_slice() {
+        return jump_hint(other);
+    }
+    if name == b"li".as_slice() {
+        return load_hint(other);
+    }
+    b""
+}
+
+// Whether an offset with a register stands before the register of a load or a store.
+fn is_reversed(name: &[u8], operand: &[Token<'_>]) -> bool
+    ensures { result ≡ is_reversed name.now (tokens_in operand.now) }
+{
+    accesses_memory(name) && begins_with_address(operand)
+}
+
 // Appends what to write in place of an operand with tokens, from its first one on.
 #[tactic(auto, unfolding(crate::specs::OperandHint::written_hint))]
 fn add_written_hint(out: &mut Vec<u8>, name: &[u8], operand: &[Token<'_>]) -> Result<(), AllocError>
@@ -198,14 +346,14 @@ fn add_written_hint(out: &mut Vec<u8>, name: &[u8], operand: &[Token<'_>]) -> Re
     if lacks_comma(operand) {
         return add_text(out, b"hint: a comma stands between two operands\n");
     }
-    if begins_with_number(operand) {
-        return add_with_number(out, name);
+    if is_reversed(name, operand) {
+        return add_text(out, reversed_hint());
     }
-    if !accesses_memory(name) {
-        return Ok(());
+    if begins_with_number(operand) {
+        return add_number_hint(out, name, operand);
     }
     match first_name(operand) {
-        Some(name) => add_text(out, address_hint(name)),
+        Some(other) => add_text(out, named_hint(name, other)),
         None => Ok(()),
     }
 }
@@ -247,13 +395,35 @@ pub(crate) fn add_operands_hint(
     }
 }
 
+// Whether a statement is a jump to what its only operand names, which has to be a register.
+fn jumps_to_name(body: &[Token<'_>]) -> bool
+    ensures { result ≡ jumps_to_name (tokens_in body.now) }
+{
+    match body {
+        [Token::Name(name), Token::Name(_)] => is_among(name, &[b"jr", b"jalr"]),
+        _ => false,
+    }
+}
+
+/// What to write in place of a statement with a name where a register is to stand.
+#[tactic(auto, unfolding(crate::specs::OperandHint::target_hint))]
+pub(crate) fn target_hint(body: &[Token<'_>]) -> &'static [u8]
+    ensures { result.now ≡ target_hint (tokens_in body.now) }
+{
+    if jumps_to_name(body) {
+        b"hint: jr and jalr take a register, and j, jal and call a symbol\n"
+    } else {
+        b""
+    }
+}
+
 /// What to write in place of an immediate that is out of range.
 #[tactic(auto, unfolding(crate::specs::OperandHint::range_hint))]
 pub(crate) fn range_hint(name: &[u8]) -> &'static [u8]
     ensures { result.now ≡ range_hint name.now }
 {
     if is_among(name, &[b"addi", b"lui"]) {
-        b"hint: li loads each number of 32 bits\n"
+        b"hint: li loads each number of 32 bits, and la the address of a label\n"
     } else {
         b""
     }
