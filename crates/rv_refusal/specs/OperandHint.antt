@@ -52,10 +52,12 @@ begins_with_registers name =
     is_one_of (codes "beq" ∷ codes "bne" ∷ codes "blt" ∷ codes "bge" ∷ codes "bltu" ∷ codes "bgeu" ∷ codes "bgt"
     ∷ codes "ble" ∷ codes "bgtu" ∷ codes "bleu" ∷ codes "sb" ∷ codes "sh" ∷ codes "sw" ∷ []) name
 
--- that a number is loaded into a register first
-unfoldable pub loaded_hint : List ℕ
-loaded_hint =
-    codes "hint: a register stands here: li t0, 5 loads 5 into t0, and zero is a register that holds 0\n"
+-- what to write in place of a number before other operands
+unfoldable pub loaded_hint : List ℕ → List ℕ
+loaded_hint name =
+    if begins_with_registers name
+    then codes "hint: a register stands here: li t0, 5 loads 5 into t0, and zero is a register that holds 0\n"
+    else []
 
 -- the multiplications and divisions
 unfoldable pub products : List (List ℕ)
@@ -63,7 +65,7 @@ products =
     codes "mul" ∷ codes "mulh" ∷ codes "mulhsu" ∷ codes "mulhu" ∷ codes "div" ∷ codes "divu" ∷ codes "rem"
     ∷ codes "remu" ∷ []
 
--- what an instruction on registers is with a number in the place of one
+-- what an instruction on registers is with a number as its last operand
 unfoldable pub with_number : List ℕ → List ℕ
 with_number name =
     if is_one_of (codes "add" ∷ codes "and" ∷ codes "or" ∷ codes "xor" ∷ codes "slt" ∷ codes "sll" ∷ codes "srl"
@@ -73,14 +75,13 @@ with_number name =
     else (if bytes_eq name (codes "sub") then codes
     "hint: with a number it is addi, and the number has the other sign\n"
     else (if is_one_of (codes "mv" ∷ codes "la" ∷ []) name then codes "hint: with a number it is li\n"
-    else (if is_one_of products name then codes "hint: it takes registers alone: li loads a number into one\n"
-    else [])))
+    else []))
 
 -- what to write in place of a number
 unfoldable pub number_hint : List ℕ → List Token → List ℕ
 number_hint name operand =
-    if begins_with_registers name then if stands_before_another operand then loaded_hint else []
-    else with_number name
+    if is_one_of products name then codes "hint: it takes registers alone: li loads a number into one\n"
+    else (if stands_before_another operand then loaded_hint name else with_number name)
 
 -- an instruction loads or stores
 abbrev pub accesses_memory : List ℕ → Bool

@@ -119,15 +119,19 @@ fn begins_with_registers(name: &[u8]) -> bool
     )
 }
 
-// That a number is loaded into a register first.
+// What to write in place of a number before other operands.
 #[tactic(auto, unfolding(crate::specs::OperandHint::loaded_hint))]
-fn loaded_hint() -> &'static [u8]
-    ensures { result.now ≡ loaded_hint }
+fn loaded_hint(name: &[u8]) -> &'static [u8]
+    ensures { result.now ≡ loaded_hint name.now }
 {
-    b"hint: a register stands here: li t0, 5 loads 5 into t0, and zero is a register that holds 0\n"
+    if begins_with_registers(name) {
+        b"hint: a register stands here: li t0, 5 loads 5 into t0, and zero is a register that holds 0\n"
+    } else {
+        b""
+    }
 }
 
-// Appends what an instruction on registers is with a number in the place of one.
+// Appends what an instruction on registers is with a number as its last operand.
 #[tactic(auto, unfolding(crate::specs::OperandHint::with_number))]
 fn add_with_number(out: &mut Vec<u8>, name: &[u8]) -> Result<(), AllocError>
     ensures { OnOk result (out.new.items ≡ out.old.items ++ with_number name.now) }
@@ -150,12 +154,6 @@ fn add_with_number(out: &mut Vec<u8>, name: &[u8]) -> Result<(), AllocError>
     if is_among(name, &[b"mv", b"la"]) {
         return add_text(out, b"hint: with a number it is li\n");
     }
-    if is_among(name, products()) {
-        return add_text(
-            out,
-            b"hint: it takes registers alone: li loads a number into one\n",
-        );
-    }
     Ok(())
 }
 
@@ -164,13 +162,16 @@ fn add_with_number(out: &mut Vec<u8>, name: &[u8]) -> Result<(), AllocError>
 fn add_number_hint(out: &mut Vec<u8>, name: &[u8], operand: &[Token<'_>]) -> Result<(), AllocError>
     ensures { OnOk result (out.new.items ≡ out.old.items ++ number_hint name.now (tokens_in operand.now)) }
 {
-    if !begins_with_registers(name) {
-        return add_with_number(out, name);
+    if is_among(name, products()) {
+        return add_text(
+            out,
+            b"hint: it takes registers alone: li loads a number into one\n",
+        );
     }
     if stands_before_another(operand) {
-        return add_text(out, loaded_hint());
+        return add_text(out, loaded_hint(name));
     }
-    Ok(())
+    add_with_number(out, name)
 }
 
 // Whether an instruction loads or stores.

@@ -209,7 +209,7 @@ static LABELS: [(&str, &str); 8] = [
 ];
 
 // Statements with other operands, and what to write instead.
-static OPERANDS: [(&str, &str); 62] = [
+static OPERANDS: [(&str, &str); 63] = [
     (
         "addi a0, a1, a2",
         "\nhint: a2 is a register, and a symbol or a number stands here\n",
@@ -251,6 +251,7 @@ static OPERANDS: [(&str, &str); 62] = [
         "\nhint: with a number it is addi, and the number has the other sign\n",
     ),
     ("mv a0, 5", "\nhint: with a number it is li\n"),
+    ("mv 5, a0", "\nexpected: mv rd, rs1, as in 'mv x5, x6'\n"),
     ("la a0, -5", "\nhint: with a number it is li\n"),
     (
         "la a0, 4(sp)",
