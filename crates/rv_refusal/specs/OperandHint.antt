@@ -147,7 +147,8 @@ jump_hint name =
 unfoldable pub load_hint : List ℕ → List ℕ
 load_hint name =
     if is_one_of registers name then codes "hint: with a register it is mv\n"
-    else (if begins_with 36 name then [] else codes "hint: la loads the address of a label; a line .equ stands above each use of its name\n")
+    else (if begins_with 36 name then []
+    else codes "hint: la loads the address of a label; a line .equ stands above each use of its name\n")
 
 -- what to write in place of a name at the front of an operand
 unfoldable pub named_hint : List ℕ → List ℕ → List ℕ

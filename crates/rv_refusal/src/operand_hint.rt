@@ -4,10 +4,11 @@ ghost use Rattle.rv_refusal.specs.NameSet.{holds};
 ghost use Rattle.rv_refusal.specs.OperandHint.{accesses_memory, address_hint, bare_statements, begins_with_address};
 ghost use Rattle.rv_refusal.specs.OperandHint.{begins_with_number, begins_with_registers, is_ended, is_reversed};
 ghost use Rattle.rv_refusal.specs.OperandHint.{is_word, jump_hint, jumps_to_name, lacks_closing, lacks_comma};
-ghost use Rattle.rv_refusal.specs.OperandHint.{lacks_opening, lacks_parenthesis, load_hint, loaded_hint, named_hint, nothing_hint};
-ghost use Rattle.rv_refusal.specs.OperandHint.{number_hint, offset_hint, operand_hint, operands_hint, products};
-ghost use Rattle.rv_refusal.specs.OperandHint.{range_hint, register_hint, reversed_hint, stands_before_another};
-ghost use Rattle.rv_refusal.specs.OperandHint.{takes_offset, target_hint, with_number, written_hint};
+ghost use Rattle.rv_refusal.specs.OperandHint.{lacks_opening, lacks_parenthesis, load_hint, loaded_hint, named_hint};
+ghost use Rattle.rv_refusal.specs.OperandHint.{nothing_hint, number_hint, offset_hint, operand_hint, operands_hint};
+ghost use Rattle.rv_refusal.specs.OperandHint.{products, range_hint, register_hint, reversed_hint};
+ghost use Rattle.rv_refusal.specs.OperandHint.{stands_before_another, takes_offset, target_hint, with_number};
+ghost use Rattle.rv_refusal.specs.OperandHint.{written_hint};
 
 use crate::culprit::operand_of_fault;
 use crate::key_line::is_among;
