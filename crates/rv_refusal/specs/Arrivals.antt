@@ -1,5 +1,5 @@
 -- Why a list of arrivals is refused.
-use Rattle.std.specs.Prelude.{ℕ, ◌+◌, ◌==◌, Bool, List, [], ◌++◌, codes, decimal, if◌then◌else◌, is_none, Option}
+use Rattle.std.specs.Prelude.{ℕ, ◌+◌, ◌==◌, List, [], ◌++◌, codes, decimal, if◌then◌else◌, is_none, Option}
 use Rattle.std.specs.{Option.option_map_or, Option.option_or}
 use Rattle.rv_describe.specs.Entries.{entry_of, field_of}
 use Rattle.rv_describe.specs.declared.{arrivals_error.ArrivalsError.ArrivalsError, field.Field.Field}
@@ -9,9 +9,8 @@ use Rattle.rv_job.specs.Parts.{Parts}
 use Rattle.rv_refusal.specs.Caret.{caret_below}
 use Rattle.rv_refusal.specs.EntryLine.{EntryLine, entry_on, field_names, field_on}
 use Rattle.rv_refusal.specs.EntryLine.{first_sought, heading_names, in_entry, unknown_on}
-use Rattle.rv_refusal.specs.KeyNames.{key_names}
+use Rattle.rv_refusal.specs.KeyNames.{is_described}
 use Rattle.rv_refusal.specs.Lines.{line_feeds}
-use Rattle.rv_refusal.specs.NameSet.{is_one_of}
 use Rattle.rv_refusal.specs.Near.{spelling_line}
 use Rattle.rv_refusal.specs.Place.{line_place, shown_line}
 use Rattle.rv_refusal.specs.TomlFault.{no_toml}
@@ -107,11 +106,8 @@ arrival_expected = codes "expected: entries [[arrival]], each with cycle, line a
 
 -- that a description stands in the place of arrivals
 unfoldable pub description_line : List ℕ
-description_line = codes "hint: a description is the first of three parts, with no line %% before it\n"
-
--- a name is that of a key or a table of a description
-unfoldable pub is_described : List ℕ → Bool
-is_described name = is_one_of key_names name
+description_line =
+    codes "hint: a description is the first of three parts, with no line %% before it; compare alone reads several\n"
 
 -- what is said of an unknown name: that it is one of a description, or else the known names that it may stand for
 unfoldable pub name_line : List ℕ → List ℕ

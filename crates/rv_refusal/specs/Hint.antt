@@ -1,186 +1,15 @@
 -- What to write in place of a statement at fault, where it is known what was meant.
-use Rattle.std.specs.Prelude.{ℕ, List, [], ◌∷◌, ◌++◌, codes, Bool, true, false, ◌&&◌, ◌||◌, if◌then◌else◌}
-use Rattle.std.specs.Prelude.{is_some}
-use Rattle.std.specs.{Option.option_map_or, Str.bytes_eq}
+use Rattle.std.specs.Prelude.{ℕ, List, [], Bool}
+use Rattle.std.specs.{Option.option_map_or}
 use Rattle.rv_asm.specs.Layout.{body_of}
-use Rattle.rv_asm.specs.Mnemonic.{form_named}
 use Rattle.rv_asm.specs.Token.{Token}
-use Rattle.rv_asm.specs.Token as token
 use Rattle.rv_asm.specs.declared.fault.AsmFault.{AsmFault}
 use Rattle.rv_asm.specs.declared.fault.AsmFault.TheVariants as fault
 use Rattle.rv_refusal.specs.ByteHint.{bytes_hint}
-use Rattle.rv_refusal.specs.Culprit.{operand_of_fault}
-use Rattle.rv_refusal.specs.Names.{registers, unknown_name}
-use Rattle.rv_refusal.specs.NameOn.{begins_with}
-use Rattle.rv_refusal.specs.NameSet.{is_one_of}
-use Rattle.rv_refusal.specs.Near.{counterpart, in_small_letters}
+use Rattle.rv_refusal.specs.NameHint.{statement_hint}
+use Rattle.rv_refusal.specs.Names.{unknown_name}
+use Rattle.rv_refusal.specs.OperandHint.{operands_hint, range_hint, register_hint, target_hint}
 use Rattle.rv_refusal.specs.Statement.{first_name}
-
--- directives of other assemblers that say nothing to this machine
-unfoldable pub idle_directives : List (List ℕ)
-idle_directives =
-    codes ".option" ∷ codes ".type" ∷ codes ".size" ∷ codes ".file" ∷ codes ".ident" ∷ codes ".attribute" ∷ codes ".end"
-    ∷ codes ".weak" ∷ codes ".local" ∷ codes ".loc" ∷ []
-
--- those that make lines, or take them in under a condition
-unfoldable pub line_directives : List (List ℕ)
-line_directives =
-    codes ".macro" ∷ codes ".endm" ∷ codes ".rept" ∷ codes ".endr" ∷ codes ".if" ∷ codes ".else" ∷ codes ".endif"
-    ∷ codes ".include" ∷ []
-
--- those of data of 64 bits
-unfoldable pub double_directives : List (List ℕ)
-double_directives = codes ".quad" ∷ codes ".dword" ∷ codes ".8byte" ∷ []
-
--- a name at the front reads as a label without its colon: it stands alone, or a statement follows it
-abbrev pub reads_as_label : List Token → Bool
-reads_as_label (token.Name name ∷ []) = true
-reads_as_label (token.Name name ∷ token.Name next ∷ rest) = is_some (form_named next)
-reads_as_label _ = false
-
--- what to write in place of a statement with an unknown directive
-unfoldable pub directive_hint : List ℕ → List ℕ
-directive_hint name =
-    if is_one_of idle_directives name then codes "hint: this line may be left out\n"
-    else (if is_one_of line_directives name then codes
-    "hint: there are no macros and no conditions: the lines stand themselves\n"
-    else (if is_one_of double_directives name then codes "hint: two words, the lower one first\n"
-    else []))
-
--- a name is known otherwise: from other assemblers, or in small letters
-abbrev pub is_known_otherwise : List ℕ → Bool
-is_known_otherwise name = is_some (counterpart name) || is_some (form_named (in_small_letters name))
-
--- what to write in place of a statement with an unknown mnemonic
-unfoldable pub label_hint : List ℕ → List Token → List ℕ
-label_hint name body =
-    if is_known_otherwise name then []
-    else (if reads_as_label body then codes "hint: a label has a colon after it, as in " ++ (name ++ codes ":\n")
-    else [])
-
--- what to write in place of a statement with an unknown name
-abbrev pub name_hint : List Token → List ℕ → List ℕ
-name_hint body name = if begins_with 46 name then directive_hint name else label_hint name body
-
--- what to write in place of a statement whose name is unknown or that has none
-unfoldable pub statement_hint : List Token → List ℕ
-statement_hint (token.Number number ∷ token.Colon ∷ rest) = codes "hint: a label is a name, as in again:\n"
-statement_hint (token.Name name ∷ token.Minus ∷ rest) = codes "hint: a name has letters, digits, _ . and $\n"
-statement_hint body = option_map_or (name_hint body) (first_name body) []
-
--- what to write in place of a register where a value is to stand
-unfoldable pub register_hint : List ℕ → List ℕ
-register_hint name =
-    if is_one_of registers name
-    then codes "hint: " ++ (name ++ codes " is a register, and a symbol or a number stands here\n")
-    else []
-
--- the token is a name or a number
-abbrev pub is_word : Token → Bool
-is_word (token.Name name) = true
-is_word (token.Number number) = true
-is_word _ = false
-
--- two names or numbers stand side by side
-abbrev pub lacks_comma : List Token → Bool
-lacks_comma (first ∷ second ∷ rest) = is_word first && is_word second
-lacks_comma _ = false
-
--- a number stands at the front
-abbrev pub begins_with_number : List Token → Bool
-begins_with_number (token.Number number ∷ rest) = true
-begins_with_number (token.Minus ∷ token.Number number ∷ rest) = true
-begins_with_number _ = false
-
--- the multiplications and divisions
-unfoldable pub products : List (List ℕ)
-products =
-    codes "mul" ∷ codes "mulh" ∷ codes "mulhsu" ∷ codes "mulhu" ∷ codes "div" ∷ codes "divu" ∷ codes "rem"
-    ∷ codes "remu" ∷ []
-
--- what an instruction on registers is with a number in the place of one
-unfoldable pub with_number : List ℕ → List ℕ
-with_number name =
-    if is_one_of (codes "add" ∷ codes "and" ∷ codes "or" ∷ codes "xor" ∷ codes "slt" ∷ codes "sll" ∷ codes "srl"
-    ∷ codes "sra" ∷ []) name
-    then codes "hint: with a number it is " ++ (name ++ codes "i\n")
-    else (if bytes_eq name (codes "sub") then codes
-    "hint: with a number it is addi, and the number has the other sign\n"
-    else (if bytes_eq name (codes "mv") then codes "hint: with a number it is li\n"
-    else (if is_one_of products name then codes "hint: it takes registers alone: li loads a number into one\n"
-    else [])))
-
--- an instruction loads or stores
-abbrev pub accesses_memory : List ℕ → Bool
-accesses_memory name =
-    is_one_of (codes "lb" ∷ codes "lh" ∷ codes "lw" ∷ codes "lbu" ∷ codes "lhu" ∷ codes "sb" ∷ codes "sh"
-    ∷ codes "sw" ∷ []) name
-
--- an instruction has an offset with a register in parentheses
-abbrev pub takes_offset : List ℕ → Bool
-takes_offset name = accesses_memory name || bytes_eq name (codes "jalr")
-
--- a name stands after a number, without the parenthesis between them
-abbrev pub lacks_opening : List Token → Bool
-lacks_opening (token.Number number ∷ token.Name name ∷ rest) = true
-lacks_opening (token.Minus ∷ token.Number number ∷ token.Name name ∷ rest) = true
-lacks_opening _ = false
-
--- the parenthesis after a name is missing at the end
-abbrev pub lacks_closing : List Token → Bool
-lacks_closing (token.LeftParenthesis ∷ token.Name name ∷ []) = true
-lacks_closing (token.Number number ∷ token.LeftParenthesis ∷ token.Name name ∷ []) = true
-lacks_closing _ = false
-
--- an offset with a register lacks a parenthesis
-abbrev pub lacks_parenthesis : List ℕ → List Token → Bool
-lacks_parenthesis name operand = takes_offset name && (lacks_opening operand || lacks_closing operand)
-
--- how an offset with a register is written
-unfoldable pub offset_hint : List ℕ
-offset_hint = codes "hint: an address is written as offset(register), as in 8(sp)\n"
-
--- what to write in place of a name where an address is to stand
-unfoldable pub address_hint : List ℕ → List ℕ
-address_hint name =
-    if is_one_of registers name then offset_hint
-    else codes "hint: an address is in a register: la t0, symbol loads it, and 0(t0) is the word there\n"
-
--- statements without operands
-unfoldable pub bare_statements : List (List ℕ)
-bare_statements =
-    codes ".text" ∷ codes ".data" ∷ codes "nop" ∷ codes "ret" ∷ codes "ecall" ∷ codes "ebreak" ∷ codes "mret"
-    ∷ codes "wfi" ∷ codes "fence" ∷ codes "fence.i" ∷ []
-
--- what to write in place of an operand with tokens, from its first one on
-unfoldable pub written_hint : List ℕ → List Token → List ℕ
-written_hint name operand =
-    if is_one_of bare_statements name then codes "hint: it takes no operand, and a line has one statement\n"
-    else (if lacks_parenthesis name operand then offset_hint
-    else (if lacks_comma operand then codes "hint: a comma stands between two operands\n"
-    else (if begins_with_number operand then with_number name
-    else (if accesses_memory name then option_map_or address_hint (first_name operand) []
-    else []))))
-
--- that no operand stands after a comma
-unfoldable pub nothing_hint : List ℕ
-nothing_hint = codes "hint: no operand stands after the last comma; what stands after # is a comment\n"
-
--- what to write in place of an operand, from its first token on
-unfoldable pub operand_hint : List ℕ → List Token → List ℕ
-operand_hint name [] = nothing_hint
-operand_hint name (first ∷ rest) = written_hint name (first ∷ rest)
-
--- what to write in place of the operand at fault
-abbrev pub operands_hint : (List ℕ → Bool) → List Token → List ℕ
-operands_hint defined body =
-    option_map_or (λ name. option_map_or (operand_hint name) (operand_of_fault fault.BadOperands defined body) [])
-    (first_name body) []
-
--- what to write in place of an immediate that is out of range
-unfoldable pub range_hint : List ℕ → List ℕ
-range_hint name =
-    if is_one_of (codes "addi" ∷ codes "lui" ∷ []) name then codes "hint: li loads each number of 32 bits\n" else []
 
 -- what to write in place of a statement at fault, where these symbols are defined
 unfoldable pub body_hint : AsmFault → (List ℕ → Bool) → List Token → List ℕ
@@ -188,6 +17,7 @@ body_hint fault.UnknownMnemonic defined body = statement_hint body
 body_hint fault.UnknownSymbol defined body =
     option_map_or register_hint (unknown_name fault.UnknownSymbol defined body) []
 body_hint fault.BadOperands defined body = operands_hint defined body
+body_hint fault.BadRegister defined body = target_hint body
 body_hint fault.OutOfRange defined body = option_map_or range_hint (first_name body) []
 body_hint _ defined body = []
 

@@ -7,6 +7,7 @@ use Rattle.rv_isa.specs.Key.{order}
 use Rattle.rv_refusal.specs.KeyLine.{KeyLine}
 use Rattle.rv_refusal.specs.KeyNames.{names_in, tables_from}
 use Rattle.rv_refusal.specs.NameOn.{heading_on}
+use Rattle.rv_refusal.specs.NameSet.{is_one_of}
 use Rattle.rv_refusal.specs.Near.{names_line, spelling_line}
 use Rattle.rv_refusal.specs.OrElse.{or_else}
 
@@ -73,9 +74,23 @@ outside_line name =
 unfoldable pub arrivals_line : List ℕ
 arrivals_line = codes "hint: arrivals are the second of three parts; is a line %% missing before them?\n"
 
--- the lines on an unknown name: of arrivals, or one that is known where no table stands above it, or another
-unfoldable pub key_hint : List (List ℕ) → KeyLine → List (List ℕ) → List ℕ
-key_hint known found keys =
-    if bytes_eq found.key (codes "arrival") then arrivals_line
+-- a name is meant as the size of the cache
+unfoldable pub names_size : List ℕ → Bool
+names_size name = is_one_of (codes "cache.size" ∷ codes "cache_size" ∷ []) name
+
+-- that the cache has no key for its size
+unfoldable pub size_line : List ℕ
+size_line = codes "hint: the cache has cache.sets times cache.ways times cache.line bytes\n"
+
+-- the lines on an unknown name that is none of arrivals: the size of the cache, or one that is known where no table
+-- stands above it, or another
+unfoldable pub name_hint : List (List ℕ) → KeyLine → List (List ℕ) → List ℕ
+name_hint known found keys =
+    if names_size found.name then size_line
     else (if list_any (bytes_eq found.key) known then outside_line found.name
     else table_hint known found keys)
+
+-- the lines on an unknown name: of arrivals, or another
+unfoldable pub key_hint : List (List ℕ) → KeyLine → List (List ℕ) → List ℕ
+key_hint known found keys =
+    if bytes_eq found.key (codes "arrival") then arrivals_line else name_hint known found keys

@@ -4,6 +4,7 @@ use Rattle.std.specs.{List.filter, Option.option_to_list, Str.bytes_eq}
 use Rattle.rv_isa.specs.declared.keys.Key.{Key}
 use Rattle.rv_isa.specs.Key.{key_place, order, text_of}
 use Rattle.rv_describe.specs.Unknown.{same_table}
+use Rattle.rv_refusal.specs.NameSet.{is_one_of}
 
 -- the table of a key, but for that of the key before
 abbrev pub new_table : Option (List ℕ) → Option (List ℕ) → List (List ℕ)
@@ -17,6 +18,10 @@ tables_from last (key ∷ others) = new_table (key_place key).table last ++ tabl
 -- the keys with their tables' names before them, and then the tables
 abbrev pub key_names : List (List ℕ)
 key_names = map text_of order ++ tables_from None order
+
+-- a name is that of a key or a table of a description
+unfoldable pub is_described : List ℕ → Bool
+is_described name = is_one_of key_names name
 
 -- a key stands in a table, or in none
 unfoldable pub stands_in : Option (List ℕ) → Key → Bool

@@ -1,11 +1,13 @@
 pub mod Arrivals
 pub mod ByteHint
 pub mod Caret
+pub mod Counterpart
 pub mod Culprit
 pub mod Definition
 pub mod Described
 pub mod EntryLine
 pub mod Expected
+pub mod ForeignName
 pub mod Further
 pub mod HeldName
 pub mod Hint
@@ -14,10 +16,12 @@ pub mod KeyHint
 pub mod KeyLine
 pub mod KeyNames
 pub mod Lines
+pub mod NameHint
 pub mod NameOn
 pub mod NameSet
 pub mod Names
 pub mod Near
+pub mod OperandHint
 pub mod Operands
 pub mod OrElse
 pub mod Place

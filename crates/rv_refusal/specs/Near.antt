@@ -1,5 +1,5 @@
 -- The known names that are near an unknown one.
-use Rattle.std.specs.Prelude.{ℕ, List, [], ◌∷◌, ◌++◌, codes, map, take, Bool, ◌||◌, if◌then◌else◌, Option, Some, None}
+use Rattle.std.specs.Prelude.{ℕ, ◌==◌, List, [], ◌∷◌, ◌++◌, codes, length, map, take, Bool, ◌||◌, if◌then◌else◌}
 use Rattle.std.specs.{List.filter, List.flat_map, Option.option_map_or, Str.bytes_eq}
 use Rattle.std.specs.Char.{to_ascii_lowercase}
 use Rattle.rv_asm.specs.Layout.{body_of}
@@ -7,8 +7,9 @@ use Rattle.rv_asm.specs.Token.{Token}
 use Rattle.rv_asm.specs.declared.fault.AsmFault.{AsmFault}
 use Rattle.rv_asm.specs.declared.fault.AsmFault.TheVariants.{UnknownMnemonic, UnknownSymbol}
 use Rattle.rv_describe.specs.Near.{is_near}
+use Rattle.rv_refusal.specs.Counterpart.{counterpart}
+use Rattle.rv_refusal.specs.ForeignName.{foreign_hint}
 use Rattle.rv_refusal.specs.Names.{known_names, unknown_name}
-use Rattle.rv_refusal.specs.NameOn.{begins_with}
 use Rattle.rv_refusal.specs.NameSet.{is_one_of}
 use Rattle.rv_refusal.specs.OrElse.{or_else}
 
@@ -42,42 +43,16 @@ spelling_line name known =
 abbrev pub aligns_to_power : List ℕ → Bool
 aligns_to_power name = bytes_eq name (codes ".align") || bytes_eq name (codes ".p2align")
 
--- the directive to write in place of one of other assemblers
-unfoldable pub directive_for : List ℕ → Option (List ℕ)
-directive_for name =
-    if is_one_of (codes ".set" ∷ codes ".eqv" ∷ []) name then Some (codes ".equ")
-    else (if is_one_of (codes ".long" ∷ codes ".4byte" ∷ codes ".quad" ∷ codes ".dword" ∷ codes ".8byte" ∷ []) name
-    then Some (codes ".word")
-    else (if is_one_of (codes ".short" ∷ codes ".2byte" ∷ []) name then Some (codes ".half")
-    else (if is_one_of (codes ".org" ∷ codes ".fill" ∷ codes ".comm" ∷ codes ".lcomm" ∷ []) name
-    then Some (codes ".zero")
-    else (if is_one_of (codes ".rodata" ∷ codes ".rdata" ∷ codes ".bss" ∷ codes ".sdata" ∷ codes ".sbss" ∷ []) name
-    then Some (codes ".data")
-    else None))))
-
--- the mnemonic to write in place of one of other assemblers, or of another machine
-unfoldable pub mnemonic_for : List ℕ → Option (List ℕ)
-mnemonic_for name =
-    if is_one_of (codes "b" ∷ codes "jmp" ∷ codes "tail" ∷ []) name then Some (codes "j")
-    else (if bytes_eq name (codes "subi") then Some (codes "addi")
-    else (if is_one_of (codes "mov" ∷ codes "move" ∷ []) name then Some (codes "mv")
-    else (if bytes_eq name (codes "lla") then Some (codes "la")
-    else (if is_one_of (codes "ld" ∷ codes "lwu" ∷ []) name then Some (codes "lw")
-    else (if bytes_eq name (codes "sd") then Some (codes "sw")
-    else (if is_one_of (codes "scall" ∷ codes "syscall" ∷ []) name then Some (codes "ecall")
-    else (if is_one_of (codes "sret" ∷ codes "uret" ∷ []) name then Some (codes "mret")
-    else None)))))))
-
--- what to write in place of a name of other assemblers
-unfoldable pub counterpart : List ℕ → Option (List ℕ)
-counterpart name = if begins_with 46 name then directive_for name else mnemonic_for name
+-- the line on an unknown mnemonic that no other stands for: nothing of one that has a hint
+unfoldable pub unfamiliar_line : List ℕ → List (List ℕ) → List ℕ
+unfamiliar_line name known = if length (foreign_hint name) == 0 then spelling_line name known else []
 
 -- the line on an unknown mnemonic
 unfoldable pub mnemonic_line : List ℕ → List (List ℕ) → List ℕ
 mnemonic_line name known =
     if aligns_to_power name then codes "nearest: .balign, in bytes: .balign 4 for .align 2, .balign 8 for .align 3\n"
     else if bytes_eq name (codes ".section") then names_line (codes ".text" ∷ codes ".data" ∷ [])
-    else option_map_or (λ other. names_line (other ∷ [])) (counterpart name) (spelling_line name known)
+    else option_map_or (λ other. names_line (other ∷ [])) (counterpart name) (unfamiliar_line name known)
 
 -- the line on an unknown name of assembly; that of a symbol may have capital letters
 unfoldable pub known_line : AsmFault → List ℕ → List (List ℕ) → List ℕ

@@ -1,9 +1,9 @@
-ghost use Rattle.std.specs.Prelude.{◌≡◌, ◌++◌, IfOk, OnOk, [], map, option_map};
+ghost use Rattle.std.specs.Prelude.{◌≡◌, ◌++◌, OnOk, [], map, option_map};
 ghost use Rattle.std.specs.Option.{option_map_or};
 ghost use Rattle.rv_job.specs.ReadParts.{parts_in};
 ghost use Rattle.rv_refusal.specs.Arrivals.{arrival_expected, arrival_names, arrivals_lines, description_line};
 ghost use Rattle.rv_refusal.specs.Arrivals.{entry_line_text, entry_lines, entry_text, field_line, field_lines};
-ghost use Rattle.rv_refusal.specs.Arrivals.{field_name, given_lines, heading_lines, in_entry_text, is_described};
+ghost use Rattle.rv_refusal.specs.Arrivals.{field_name, given_lines, heading_lines, in_entry_text};
 ghost use Rattle.rv_refusal.specs.Arrivals.{lacking_lines, line_of_entry, line_of_field, line_of_list, list_lines};
 ghost use Rattle.rv_refusal.specs.Arrivals.{no_arrivals};
 ghost use Rattle.rv_refusal.specs.Arrivals.{missing_line, missing_lines, name_line, part_lines, parts_line};
@@ -12,8 +12,7 @@ ghost use Rattle.rv_refusal.specs.EntryLine.{entry_line};
 
 use crate::caret::add_marked_line;
 use crate::entry_line::{EntryLine, Sought, first_sought};
-use crate::key_line::is_among;
-use crate::key_names::key_names;
+use crate::key_names::is_described;
 use crate::lines::line_feeds;
 use crate::near::add_spelling_line;
 use crate::place::add_line_place;
@@ -267,16 +266,7 @@ fn arrival_names() -> &'static [&'static [u8]]
 fn description_line() -> &'static [u8]
     ensures { result.now ≡ description_line }
 {
-    b"hint: a description is the first of three parts, with no line %% before it\n"
-}
-
-// Whether a name is that of a key or a table of a description.
-#[tactic(auto, unfolding(crate::specs::Arrivals::is_described))]
-fn is_described(alloc: Global, name: &[u8]) -> Result<bool, AllocError>
-    ensures { IfOk result (λ is. is ≡ is_described name.now) }
-{
-    let keys = key_names(alloc)?;
-    Ok(is_among(name, keys.as_slice()))
+    b"hint: a description is the first of three parts, with no line %% before it; compare alone reads several\n"
 }
 
 // Appends what is said of an unknown name.

@@ -2,8 +2,8 @@ ghost use Rattle.std.specs.Prelude.{◌≡◌, ◌≤◌, ◌++◌, [], IfOk, No
 ghost use Rattle.std.specs.List.{prefix_len};
 ghost use Rattle.rv_isa.specs.Key.{order};
 ghost use Rattle.rv_refusal.specs.KeyHint.{all_names, arrivals_line, bare_keys, before_dot, each_name, given_table};
-ghost use Rattle.rv_refusal.specs.KeyHint.{here_line, is_undotted, key_hint, near_or_keys, outside_line, table_hint};
-ghost use Rattle.rv_refusal.specs.KeyHint.{table_keys, top_names};
+ghost use Rattle.rv_refusal.specs.KeyHint.{here_line, is_undotted, key_hint, name_hint, names_size, near_or_keys};
+ghost use Rattle.rv_refusal.specs.KeyHint.{outside_line, size_line, table_hint, table_keys, top_names};
 ghost use Rattle.rv_refusal.specs.KeyLine.{key_line};
 ghost use Rattle.rv_refusal.specs.KeyNames.{names_in, tables_from};
 ghost use Rattle.rv_refusal.specs.OrElse.{or_else};
@@ -225,7 +225,46 @@ fn arrivals_line() -> &'static [u8]
     b"hint: arrivals are the second of three parts; is a line %% missing before them?\n"
 }
 
-/// Appends the lines on an unknown name: of arrivals, or one that is known where no table stands above it, or another.
+// Whether a name is meant as the size of the cache.
+#[tactic(auto, unfolding(crate::specs::KeyHint::names_size))]
+fn names_size(name: &[u8]) -> bool
+    ensures { result ≡ names_size name.now }
+{
+    is_among(name, &[b"cache.size", b"cache_size"])
+}
+
+// That the cache has no key for its size.
+#[tactic(auto, unfolding(crate::specs::KeyHint::size_line))]
+fn size_line() -> &'static [u8]
+    ensures { result.now ≡ size_line }
+{
+    b"hint: the cache has cache.sets times cache.ways times cache.line bytes\n"
+}
+
+// Appends the lines on an unknown name that is none of arrivals: the size of the cache, or one that is known where no
+// table stands above it, or another.
+#[tactic(auto, unfolding(crate::specs::KeyHint::name_hint))]
+fn add_name_hint(
+    alloc: Global,
+    out: &mut Vec<u8>,
+    known: &[&[u8]],
+    found: KeyLine<'_>,
+    keys: &[&[u8]],
+) -> Result<(), AllocError>
+    ensures { OnOk result (out.new.items ≡ out.old.items ++ name_hint (map (λ name. name.now) known.now)
+        (key_line found.entry) (map (λ name. name.now) keys.now)) }
+{
+    let name = full_name(alloc, found)?;
+    if names_size(name.as_slice()) {
+        return add_text(out, size_line());
+    }
+    if is_among(found.name, known) {
+        return add_outside_line(alloc, out, found);
+    }
+    add_table_hint(alloc, out, known, found, keys)
+}
+
+/// Appends the lines on an unknown name: of arrivals, or another.
 #[tactic(auto, unfolding(crate::specs::KeyHint::key_hint))]
 pub(crate) fn add_key_hint(
     alloc: Global,
@@ -240,8 +279,5 @@ pub(crate) fn add_key_hint(
     if found.name == b"arrival".as_slice() {
         return add_text(out, arrivals_line());
     }
-    if is_among(found.name, known) {
-        return add_outside_line(alloc, out, found);
-    }
-    add_table_hint(alloc, out, known, found, keys)
+    add_name_hint(alloc, out, known, found, keys)
 }

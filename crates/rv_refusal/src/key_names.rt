@@ -1,9 +1,10 @@
 ghost use Rattle.std.specs.Prelude.{◌≡◌, ◌++◌, IfOk, None, OnOk, map, option_copied};
 ghost use Rattle.rv_isa.specs.Key.{order, text_of};
 ghost use Rattle.rv_describe.specs.Unknown.{same_table};
-ghost use Rattle.rv_refusal.specs.KeyNames.{key_names, keys_named, names_in, new_table};
+ghost use Rattle.rv_refusal.specs.KeyNames.{is_described, key_names, keys_named, names_in, new_table};
 ghost use Rattle.rv_refusal.specs.KeyNames.{stands_in, tables_from};
 
+use crate::key_line::is_among;
 use crate::names::add_name;
 use rv_isa::{Key, all_keys};
 use std::alloc::{AllocError, Global};
@@ -76,6 +77,15 @@ pub(crate) fn key_names(alloc: Global) -> Result<Vec<&'static [u8]>, AllocError>
     add_keys(&mut names, all_keys())?;
     add_tables(&mut names, all_keys())?;
     Ok(names)
+}
+
+/// Whether a name is that of a key or a table of a description.
+#[tactic(auto, unfolding(crate::specs::KeyNames::is_described))]
+pub(crate) fn is_described(alloc: Global, name: &[u8]) -> Result<bool, AllocError>
+    ensures { IfOk result (λ is. is ≡ is_described name.now) }
+{
+    let keys = key_names(alloc)?;
+    Ok(is_among(name, keys.as_slice()))
 }
 
 /// Of all keys those of a name, with their tables' names before them.

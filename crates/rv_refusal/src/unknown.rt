@@ -2,11 +2,11 @@ ghost use Rattle.std.specs.Prelude.{◌≡◌, ◌++◌, OnOk, map, option_copie
 ghost use Rattle.rv_asm.specs.Read.{tokens_in};
 ghost use Rattle.rv_refusal.specs.Names.{known_names, names_csr, unknown_name};
 ghost use Rattle.rv_refusal.specs.NameSet.{holds};
-ghost use Rattle.rv_refusal.specs.Near.{aligns_to_power, counterpart, directive_for, known_line};
-ghost use Rattle.rv_refusal.specs.Near.{mnemonic_for, mnemonic_line, nearest_line};
+ghost use Rattle.rv_refusal.specs.Near.{aligns_to_power, known_line, mnemonic_line, nearest_line, unfamiliar_line};
 
+use crate::counterpart::counterpart;
 use crate::culprit::operand_of_fault;
-use crate::key_line::is_among;
+use crate::foreign_name::foreign_hint;
 use crate::name_on::begins_with;
 use crate::name_set::NameSet;
 use crate::names::{add_mnemonics, csrs, directives, registers};
@@ -75,71 +75,21 @@ fn aligns_to_power(name: &[u8]) -> bool
     name == b".align".as_slice() || name == b".p2align".as_slice()
 }
 
-// The directive to write in place of one of other assemblers.
-#[tactic(auto, unfolding(crate::specs::Near::directive_for))]
-fn directive_for(name: &[u8]) -> Option<&'static [u8]>
-    ensures { option_copied result ≡ directive_for name.now }
+// Appends the line on an unknown mnemonic that no other stands for.
+#[tactic(auto, unfolding(crate::specs::Near::unfamiliar_line))]
+fn add_unfamiliar_line(
+    alloc: Global,
+    out: &mut Vec<u8>,
+    name: &[u8],
+    known: &[&[u8]],
+) -> Result<(), AllocError>
+    ensures { OnOk result (out.new.items
+        ≡ out.old.items ++ unfamiliar_line name.now (map (λ other. other.now) known.now)) }
 {
-    if is_among(name, &[b".set", b".eqv"]) {
-        return Some(b".equ");
+    if foreign_hint(name).is_empty() {
+        return add_spelling_line(alloc, out, name, known);
     }
-    if is_among(name, &[b".long", b".4byte", b".quad", b".dword", b".8byte"]) {
-        return Some(b".word");
-    }
-    if is_among(name, &[b".short", b".2byte"]) {
-        return Some(b".half");
-    }
-    if is_among(name, &[b".org", b".fill", b".comm", b".lcomm"]) {
-        return Some(b".zero");
-    }
-    if is_among(name, &[b".rodata", b".rdata", b".bss", b".sdata", b".sbss"]) {
-        return Some(b".data");
-    }
-    None
-}
-
-// The mnemonic to write in place of one of other assemblers, or of another machine.
-#[tactic(auto, unfolding(crate::specs::Near::mnemonic_for))]
-fn mnemonic_for(name: &[u8]) -> Option<&'static [u8]>
-    ensures { option_copied result ≡ mnemonic_for name.now }
-{
-    if is_among(name, &[b"b", b"jmp", b"tail"]) {
-        return Some(b"j");
-    }
-    if name == b"subi".as_slice() {
-        return Some(b"addi");
-    }
-    if is_among(name, &[b"mov", b"move"]) {
-        return Some(b"mv");
-    }
-    if name == b"lla".as_slice() {
-        return Some(b"la");
-    }
-    if is_among(name, &[b"ld", b"lwu"]) {
-        return Some(b"lw");
-    }
-    if name == b"sd".as_slice() {
-        return Some(b"sw");
-    }
-    if is_among(name, &[b"scall", b"syscall"]) {
-        return Some(b"ecall");
-    }
-    if is_among(name, &[b"sret", b"uret"]) {
-        return Some(b"mret");
-    }
-    None
-}
-
-/// What to write in place of a name of other assemblers.
-#[tactic(auto, unfolding(crate::specs::Near::counterpart))]
-pub(crate) fn counterpart(name: &[u8]) -> Option<&'static [u8]>
-    ensures { option_copied result ≡ counterpart name.now }
-{
-    if begins_with(b'.', name) {
-        directive_for(name)
-    } else {
-        mnemonic_for(name)
-    }
+    Ok(())
 }
 
 // Appends the line on an unknown mnemonic.
@@ -164,7 +114,7 @@ fn add_mnemonic_line(
     }
     match counterpart(name) {
         Some(other) => add_names_line(out, &[other]),
-        None => add_spelling_line(alloc, out, name, known),
+        None => add_unfamiliar_line(alloc, out, name, known),
     }
 }
 

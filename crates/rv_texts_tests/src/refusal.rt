@@ -2,6 +2,7 @@ mod arrivals;
 mod capitals;
 mod expected;
 mod first_lines;
+mod foreign;
 mod hints;
 mod lines;
 mod misplaced;

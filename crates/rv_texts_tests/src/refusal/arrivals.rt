@@ -256,7 +256,7 @@ line 2 of the job, line 1 of its arrivals
     rob = 8
     ^
 expected: entries [[arrival]], each with cycle, line and level
-hint: a description is the first of three parts, with no line %% before it
+hint: a description is the first of three parts, with no line %% before it; compare alone reads several
 ",
     },
     Refused {
@@ -266,7 +266,7 @@ line 3 of the job, line 1 of its arrivals
     [cache]
      ^
 expected: entries [[arrival]], each with cycle, line and level
-hint: a description is the first of three parts, with no line %% before it
+hint: a description is the first of three parts, with no line %% before it; compare alone reads several
 ",
     },
     Refused {

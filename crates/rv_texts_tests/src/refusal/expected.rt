@@ -6,7 +6,7 @@ const JUMP: &str = "\nexpected: a target from -1048576 to 1048574 bytes away\n";
 const IMMEDIATE: &str = "\nexpected: a value from -2048 to 2047\n";
 
 const NUMBER: &str =
-    "\nexpected: a value from -2048 to 2047\nhint: li loads each number of 32 bits\n";
+    "\nexpected: a value from -2048 to 2047\nhint: li loads each number of 32 bits, and la the address of a label\n";
 
 const UPPER: &str = "\nexpected: a value from 0 to 1048575\n";
 
@@ -14,7 +14,7 @@ const UPPER: &str = "\nexpected: a value from 0 to 1048575\n";
 static RANGES: [(&str, &str); 16] = [
     (
         "lui x1, 0x100000",
-        "\nexpected: a value from 0 to 1048575\nhint: li loads each number of 32 bits\n",
+        "\nexpected: a value from 0 to 1048575\nhint: li loads each number of 32 bits, and la the address of a label\n",
     ),
     ("auipc x1, 0x100000", UPPER),
     (".equ far, 0\nj far", JUMP),
@@ -88,7 +88,7 @@ static SHAPES: [(&str, &str); 24] = [
     ),
     (
         "li x1, no",
-        "\nexpected: li rd, number or .equ symbol above, as in 'li x5, 8'\n",
+        "\nexpected: li rd, number or .equ symbol above, as in 'li x5, 8'\nhint: la loads the address of a label; a line .equ stands above each use of its name\n",
     ),
     (
         "ret x1",

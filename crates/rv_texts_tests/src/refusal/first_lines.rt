@@ -30,7 +30,6 @@ line 1 of the job, line 1 of its assembly: BadToken
     li a0, 5 == 5
              ^
 expected: names, numbers up to 4294967295, strings that end on their line, and the marks , : ( ) + -
-hint: .equ gives a name its number, as in .equ size, 64
 ",
     },
     Refused {

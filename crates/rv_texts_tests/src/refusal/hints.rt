@@ -9,6 +9,8 @@ const CHARACTER: &str =
 const TOKENS: &str =
     "\nexpected: names, numbers up to 4294967295, strings that end on their line, and the marks , : ( ) + -\n";
 
+const CONSTANT: &str = "\nhint: .equ gives a name its number, as in .equ size, 64\n";
+
 const STRING: &str = "\nhint: a string ends on its line, and after \\ stands one of n t \\ \" 0\n";
 
 const SUM: &str = "\nhint: a symbol and a number may be added or subtracted, as in table+4\n";
@@ -36,11 +38,16 @@ const COMMA: &str = "\nhint: a comma stands between two operands\n";
 const FOREIGN: &str =
     "\nhint: this byte is not ASCII, as a blank, a quote or a minus of a word processor is none\n";
 
+const LOADED: &str =
+    "\nhint: a register stands here: li t0, 5 loads 5 into t0, and zero is a register that holds 0\n";
+
+const TURNED: &str = "\nhint: the register stands before offset(register), as in sw a0, 8(sp)\n";
+
 const ADDRESS: &str =
     "\nhint: an address is in a register: la t0, symbol loads it, and 0(t0) is the word there\n";
 
 // Lines with bytes that are no token, and what to write instead.
-static BYTES: [(&str, &str); 30] = [
+static BYTES: [(&str, &str); 31] = [
     ("nop // again", COMMENT),
     ("nop ; nop", COMMENT),
     ("li a0, 'A'", CHARACTER),
@@ -53,10 +60,8 @@ static BYTES: [(&str, &str); 30] = [
     ("li a0, 6^3", SUM),
     ("li a0, ~6", SUM),
     ("li a0, !6", SUM),
-    (
-        "%%\na = 5",
-        "\nhint: .equ gives a name its number, as in .equ size, 64\n",
-    ),
+    ("%%\na = 5", CONSTANT),
+    ("%%\nrob = 5", CONSTANT),
     ("lw a0, [sp]", OFFSET),
     ("lw a0, {sp}", OFFSET),
     (
@@ -83,27 +88,71 @@ static BYTES: [(&str, &str); 30] = [
 ];
 
 // Statements of other assemblers and machines, and what to write instead.
-static COUNTERPARTS: [(&str, &str); 30] = [
+static COUNTERPARTS: [(&str, &str); 74] = [
     ("b f", "\nnearest: j\n"),
     ("jmp f", "\nnearest: j\n"),
+    ("br f", "\nnearest: j\n"),
+    ("jump f", "\nnearest: j\n"),
+    ("cbz a0, f", "\nnearest: beqz\n"),
+    ("cbnz a0, f", "\nnearest: bnez\n"),
     ("tail f", "\nnearest: j\n"),
+    ("goto f", "\nnearest: j\n"),
     ("subi a0, a0, 1", "\nnearest: addi\n"),
+    ("inc a0", "\nnearest: addi\n"),
+    ("dec a0", "\nnearest: addi\n"),
     ("mov a0, a1", "\nnearest: mv\n"),
     ("move a0, a1", "\nnearest: mv\n"),
     ("lla a0, s", "\nnearest: la\n"),
+    ("movi a0, 5", "\nnearest: li\n"),
+    ("ldi a0, 5", "\nnearest: li\n"),
+    ("load a0, s", "\nnearest: lw\n"),
+    ("store a0, s", "\nnearest: sw\n"),
+    ("shl a0, 1", "\nnearest: sll\n"),
+    ("lsl a0, a0, 1", "\nnearest: sll\n"),
+    ("sal a0, 1", "\nnearest: sll\n"),
+    ("shr a0, 1", "\nnearest: srl\n"),
+    ("lsr a0, a0, 1", "\nnearest: srl\n"),
+    ("sar a0, 1", "\nnearest: sra\n"),
+    ("asr a0, a0, 1", "\nnearest: sra\n"),
+    ("mod a0, a1, a2", "\nnearest: rem\n"),
     ("ld a0, 0(sp)", "\nnearest: lw\n"),
     ("lwu a0, 0(sp)", "\nnearest: lw\n"),
+    ("ldr a0, 0(sp)", "\nnearest: lw\n"),
     ("sd a0, 0(sp)", "\nnearest: sw\n"),
+    ("str a0, 0(sp)", "\nnearest: sw\n"),
     ("scall", "\nnearest: ecall\n"),
     ("syscall", "\nnearest: ecall\n"),
+    ("svc 0", "\nnearest: ecall\n"),
+    ("swi 0", "\nnearest: ecall\n"),
+    ("int 0x80", "\nnearest: ecall\n"),
+    ("halt", "\nnearest: ebreak\n"),
+    ("hlt", "\nnearest: ebreak\n"),
+    ("exit", "\nnearest: ebreak\n"),
+    ("sbreak", "\nnearest: ebreak\n"),
+    ("bl f", "\nnearest: call\n"),
+    ("bx ra", "\nnearest: jr\n"),
+    ("return", "\nnearest: ret\n"),
+    ("fence.tso", "\nnearest: fence\n"),
+    ("mflo a0", "\nnearest: mul\n"),
+    ("mfhi a0", "\nnearest: mulh\n"),
     ("sret", "\nnearest: mret\n"),
     ("uret", "\nnearest: mret\n"),
+    ("eret", "\nnearest: mret\n"),
+    ("iret", "\nnearest: mret\n"),
+    ("noop", "\nnearest: nop\n"),
+    ("break", "\nnearest: ebreak\n"),
+    (".int 5", "\nnearest: .word\n"),
+    ("x: dd 5", "\nnearest: .word\n"),
+    (".hword 5", "\nnearest: .half\n"),
+    ("x: dw 5", "\nnearest: .half\n"),
+    ("x: db 5", "\nnearest: .byte\n"),
     (".section .rodata", "\nnearest: .text, .data\n"),
     (".rodata", "\nnearest: .data\n"),
     (".rdata", "\nnearest: .data\n"),
     (".bss", "\nnearest: .data\n"),
     (".sdata", "\nnearest: .data\n"),
     (".sbss", "\nnearest: .data\n"),
+    (".define N 5", "\nnearest: .equ\n"),
     (".comm x, 4", "\nnearest: .zero\n"),
     (".lcomm x, 4", "\nnearest: .zero\n"),
     (".quad 5", TWO_WORDS),
@@ -130,7 +179,7 @@ static IDLE: [&str; 9] = [
 ];
 
 // Names that read as labels, and others that do not.
-static LABELS: [(&str, &str); 7] = [
+static LABELS: [(&str, &str); 8] = [
     (
         "frob",
         "\nhint: a label has a colon after it, as in frob:\n",
@@ -141,6 +190,10 @@ static LABELS: [(&str, &str); 7] = [
     ),
     (
         "frob x1",
+        "\nexpected: a statement that begins with an instruction or a directive\n",
+    ),
+    (
+        ".frob",
         "\nexpected: a statement that begins with an instruction or a directive\n",
     ),
     ("EBREAK", "\nnames are written in small letters: ebreak\n"),
@@ -156,7 +209,7 @@ static LABELS: [(&str, &str); 7] = [
 ];
 
 // Statements with other operands, and what to write instead.
-static OPERANDS: [(&str, &str); 47] = [
+static OPERANDS: [(&str, &str); 63] = [
     (
         "addi a0, a1, a2",
         "\nhint: a2 is a register, and a symbol or a number stands here\n",
@@ -178,6 +231,9 @@ static OPERANDS: [(&str, &str); 47] = [
     ("lh a0, -4 a1", OFFSET),
     ("jalr ra, 4 a1)", OFFSET),
     ("sw a0, 4(a1", OFFSET),
+    ("lw a0, 4, sp", OFFSET),
+    ("sw a0, -4, sp", OFFSET),
+    ("jalr ra, 0, t0", OFFSET),
     ("lw a0, (a1", OFFSET),
     ("add a0, a1,", NOTHING),
     ("addi a0, a0, #1", NOTHING),
@@ -195,6 +251,37 @@ static OPERANDS: [(&str, &str); 47] = [
         "\nhint: with a number it is addi, and the number has the other sign\n",
     ),
     ("mv a0, 5", "\nhint: with a number it is li\n"),
+    ("mv 5, a0", "\nexpected: mv rd, rs1, as in 'mv x5, x6'\n"),
+    ("la a0, -5", "\nhint: with a number it is li\n"),
+    (
+        "la a0, 4(sp)",
+        "\nexpected: la rd, symbol, as in 'la x5, loop'\n",
+    ),
+    ("csrw mscratch, 5", "\nhint: with a number it is csrwi\n"),
+    ("csrrc a0, mie, 5", "\nhint: with a number it is csrrci\n"),
+    (
+        "beq a0, a1, 8",
+        "\nexpected: beq rs1, rs2, symbol, as in 'beq x6, x7, loop'\n",
+    ),
+    (
+        "sw a0, 5",
+        "\nexpected: sw rs2, offset(rs1), as in 'sw x7, 8(x6)'\n",
+    ),
+    ("bleu a0, -5, f", LOADED),
+    ("sb 5, 0(a1)", LOADED),
+    ("lw (sp), a0", TURNED),
+    (
+        "jalr done",
+        "\nhint: jr and jalr take a register, and j, jal and call a symbol\n",
+    ),
+    (
+        "jalr done, 0(t0)",
+        "\nexpected: a register, x0 to x31, or its name in the calling convention\n",
+    ),
+    (
+        "li a0, $10",
+        "\nexpected: li rd, number or .equ symbol above, as in 'li x5, 8'\n",
+    ),
     (".text addi a0, a0, 1", ALONE),
     ("nop nop", ALONE),
     ("ebreak 1", ALONE),

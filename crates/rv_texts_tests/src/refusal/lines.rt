@@ -59,7 +59,7 @@ line 1 of the job, line 1 of its assembly: UnknownMnemonic
     .org 5
     ^
 expected: a statement that begins with an instruction or a directive
-nearest: .zero
+hint: no line chooses its address: .zero 8 leaves 8 bytes, .balign 8 goes on at a multiple of 8
 ",
     },
     Refused {

@@ -1,7 +1,7 @@
 use Rattle.std.proofs.Common.{◌∙◌, ap, map}
 use Rattle.std.specs.{List.list_any, Str.bytes_eq}
-use Rattle.rv_refusal.specs.Arrivals.{is_described}
-use Rattle.rv_refusal.proofs.arrivals.is_described.Goals as goal
+use Rattle.rv_refusal.specs.KeyNames.{is_described}
+use Rattle.rv_refusal.proofs.key_names.is_described.Goals as goal
 
 pub returns : goal.returns
 unfolding is_described
