@@ -17,6 +17,7 @@ pub mod DispatchWidth
 pub mod FetchedTogether
 pub mod Operands
 pub mod LoadsAfterStores
+pub mod FencesAfterStores
 pub mod BusWidth
 pub mod OldestResultFirst
 pub mod NoIdleBus

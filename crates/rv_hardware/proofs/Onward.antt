@@ -202,8 +202,8 @@ module _ (cycle : ℕ) (old : List Flight) (is_stale : set.FinSet nat_cmp → �
 
   turn-goes : {c : Committing} {t : Turn Committing} → CommitTurn is_stale c t → Left c → Leaves Left t
   turn-goes (fence_retires e es written next head is drained) left = fetched_now tt
-  turn-goes (executes e es written next head serial) left = fetched_now tt
-  turn-goes (serial_faults e es cause value head serial) left = fetched_now tt
+  turn-goes (executes e es written next head serial other) left = fetched_now tt
+  turn-goes (serial_faults e es cause value head serial other) left = fetched_now tt
   turn-goes (traps e es issue cycle message fault head plain at is) left = fetched_now tt
   turn-goes (retires_last e es issue cycle message head plain at none) left = fetched_now tt
   turn-goes {c} (retires e es issue now message head plain at none) left =

@@ -128,7 +128,8 @@ pub use Rattle.rv_hardware.specs.Laws.{IsFetchedAhead}
 pub use Rattle.rv_hardware.specs.Laws.{IsFetchedAfter, IsFetchedSince, IsFirst, IsKnownBefore, IsLoadCost}
 pub use Rattle.rv_hardware.specs.Laws.{IsNextWord}
 pub use Rattle.rv_hardware.specs.Laws.{IsTrappedSoon, IssuesWithOperands, LacksRoom, Laws, LeaveNoUnitIdle}
-pub use Rattle.rv_hardware.specs.Laws.{LeavesNoBusIdle, LeavesNoUnitIdle, LoadsAfterStore, NeverMoreThan}
+pub use Rattle.rv_hardware.specs.Laws.{FencesAfterStore, LeavesNoBusIdle, LeavesNoUnitIdle, LoadsAfterStore}
+pub use Rattle.rv_hardware.specs.Laws.{NeverMoreThan}
 pub use Rattle.rv_hardware.specs.Laws.{TakesDueInterrupts, WaitsForBus, WaitsForRoom, WaitsForUnits, dispatch_cycles}
 pub use Rattle.rv_hardware.specs.Laws.{is_pipelined, stall_cycles, stations_of, units_of}
 pub use Rattle.rv_hardware.specs.Repeated.{Ends, GoesOn, Turn, followed_by, repeated}
@@ -146,7 +147,8 @@ pub use Rattle.rv_hardware.specs.Squash.{flushed, redirected, with_trap}
 pub use Rattle.rv_hardware.specs.Stamps.{EachAfter, EachNext, flushes, instruction_of_row, is_broadcast_in}
 pub use Rattle.rv_hardware.specs.Stamps.{is_buffered_in, is_dispatched_in, is_executing_in, is_fetched_in}
 pub use Rattle.rv_hardware.specs.Stamps.{is_in_flight_in, is_issued_in, is_load_row, is_queued_in, is_row_of_kind}
-pub use Rattle.rv_hardware.specs.Stamps.{is_stationed_in, is_store_row, last_from, last_that, needs_no_unit, passes}
+pub use Rattle.rv_hardware.specs.Stamps.{is_stationed_in, is_fence_i_row, is_store_row, last_from, last_that}
+pub use Rattle.rv_hardware.specs.Stamps.{needs_no_unit, passes}
 pub use Rattle.rv_hardware.specs.Stamps.{producer_among, rows_of, sources_of_row, steps_below, steps_in, uses_port}
 pub use Rattle.rv_hardware.specs.Stamps.{writes_register}
 pub use Rattle.rv_hardware.specs.Step.{is_breakpoint, is_breakpoint_cause, is_interrupt, is_retirement, pc_of, stamp_of}

@@ -77,6 +77,10 @@ IssuesWithOperands before row = IfSome row.execution (λ x. EachProducer (IsKnow
 abbrev pub LoadsAfterStore : Row → Row → Type 0
 LoadsAfterStore a b = is_store_row a ≡ true → is_load_row b ≡ true → BothExecute (λ x y. x.broadcast < y.issued) a b
 
+-- a FENCE.I retires after the access of an older store to the cache, which takes the cost of a hit at least
+abbrev pub FencesAfterStore : ℕ → Row → Row → Type 0
+FencesAfterStore hit a b = is_store_row a ≡ true → is_fence_i_row b ≡ true → a.retired + hit ≤ b.retired
+
 -- a result that is ready is broadcast no later than a younger one
 abbrev pub IsBroadcastFirst : Row → Row → Type 0
 IsBroadcastFirst = BothExecute (λ x y. x.issued + x.cost ≤ y.broadcast → x.broadcast ≤ y.broadcast)
@@ -260,6 +264,8 @@ pub record Laws (values : Values) (from to : ℕ) (steps : List Step) : Type 0 w
   -- an instruction issues after the broadcasts of its operands, and a load after those of all older stores
   pub operands : EachAfter IssuesWithOperands (rows_of steps)
   pub loads_after_stores : AllPairs LoadsAfterStore (rows_of steps)
+  -- a FENCE.I retires after the accesses of all older stores
+  pub fences_after_stores : AllPairs (FencesAfterStore values.cache.hit) (rows_of steps)
   -- at most `bus_width` results are broadcast in a cycle, of those that are ready the oldest; the bus is not idle while
   -- one waits
   pub bus_width : NeverMoreThan values.bus_width is_broadcast_in (rows_of steps)

@@ -47,9 +47,9 @@ module _ (now : ℕ) where
     turn-commits most taken c _ less (stale_head e es at stale) is = stays taken most c _ less refl refl tt is
     turn-commits most taken c _ less (fence_retires e es written next head fence drained) is =
         stepped taken most c _ (row_of e written c.hardware.cycle) less refl refl is.stop is
-    turn-commits most taken c _ less (executes e es written next head serial) is =
+    turn-commits most taken c _ less (executes e es written next head serial other) is =
         stepped taken most c _ (row_of e written c.hardware.cycle) less refl refl is.stop is
-    turn-commits most taken c _ less (serial_faults e es cause value head serial) is =
+    turn-commits most taken c _ less (serial_faults e es cause value head serial other) is =
         stepped taken most c _ (step.Trap e.pc cause value c.hardware.cycle) less refl refl (breakpoint cause) is
     turn-commits most taken c _ less (traps e es issue cycle message fault head plain at faulty) is =
         stepped taken most c _ (step.Trap e.pc fault.cause fault.value c.hardware.cycle) less refl refl

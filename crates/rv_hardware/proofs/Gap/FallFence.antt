@@ -1,5 +1,6 @@
 -- Where FENCE.I is the oldest, a cycle brings the port, the retired stores and the dirty lines nearer to their end.
 use Rattle.rv_hardware.proofs.Words.{◌≡◌, ℕ, ◌+◌, ◌*◌, ◌≤◌, true, false, List, [], ◌∷◌, ◌++◌, nat_le, ◌==◌, Some}
+use Rattle.rv_hardware.proofs.Turns.Commit.{drained_none}
 use Rattle.rv_hardware.proofs.Words.{Option, sym, refl, ap, ◌∙◌, subst, arith, leb-false, eqb-false, false≢true, lt-leb}
 use Rattle.rv_hardware.proofs.Words.{is_of_kind, kind_of_word, Instr, FenceI, Kind, Each, Store, Entry, FetchBuffer}
 use Rattle.rv_hardware.proofs.Words.{broadcast, is_drained, with_write_back, write_back_time, execute, drain, Hardware}
@@ -89,10 +90,6 @@ fall_fence_waits h front e split is drains room waits ending =
     omega (arith, fence_patience h front e split is ending, fence_waits h h.committed refl drains room waits)
 
 -- ---- its write-back begins
-drained_none : (h : Hardware) {stores : List Store} → h.committed ≡ stores →
-    is_drained (record h { committed = stores }) ≡ true → h.committed ≡ []
-drained_none h is drained = grind arith
-
 -- a cycle in which FENCE.I's write-back begins lowers the patience
 pub fall_write_back : (h : Hardware) (front : FetchBuffer) (e : Entry) → h.rob.entries ≡ e ∷ [] →
     e.instruction ≡ Some FenceI → is_drained h ≡ true → (write_back_time h == 0) ≡ false →
@@ -100,7 +97,7 @@ pub fall_write_back : (h : Hardware) (front : FetchBuffer) (e : Entry) → h.rob
     patience (later front (execute (with_write_back h)).hardware) + 1 ≤ port_time h + dirty_time h h.committed + 1
 fall_write_back h front e split is drained dirty ending =
     let g : Hardware = with_write_back h in
-    let none : h.committed ≡ [] = drained_none h refl drained in
+    let none : h.committed ≡ [] = drained_none h drained in
     let some : 1 ≤ write_back_time h = omega (arith, eqb-false (write_back_time h) 0 dirty) in
     let still : drain g ≡ g = busy_same g (lt-leb (h.cycle + write_back_time h) h.cycle (omega (arith, some))) in
     let stores : time_of_stores (longest_access g) g.committed ≡ 0 = ap (time_of_stores (longest_access g)) none in

@@ -1,10 +1,11 @@
 -- A serialising instruction takes its effect in the state that programs see.
-use Rattle.rv_hardware.proofs.Words.{◌≡◌, ℕ, ◌%◌, Bool, true, List, [], IfSome, if◌then◌else◌, slice_index_or as get_or}
+use Rattle.rv_hardware.proofs.Words.{◌≡◌, ℕ, ◌%◌, Bool, true, List, IfSome, if◌then◌else◌, slice_index_or as get_or}
 use Rattle.rv_hardware.proofs.Words.{None, Option, option_map, nat_cmp, sym, refl, ap, ◌∙◌, subst, arith, false≢true}
 use Rattle.rv_hardware.proofs.Words.{Csr, FenceI, Mret, Lines, Kept, access_csr, Effect, Faults, Retires, accesses}
 use Rattle.rv_hardware.proofs.Words.{effect, State, consistent_cleaned, memory_written, memory_written_back, Each}
 use Rattle.rv_hardware.proofs.Words.{Store as QueuedStore, is_drained, with_write_back, Hardware, bytes_after}
 use Rattle.rv_hardware.proofs.Words.{layout_of, seen}
+use Rattle.rv_hardware.proofs.Turns.Commit.{drained_none}
 use Rattle.std.specs.FinSet as set
 use Rattle.rv_isa.specs.declared.instructions.CsrSource.{CsrSource}
 use Rattle.rv_isa.specs.declared.operations.CsrOp.{CsrOp}
@@ -88,15 +89,12 @@ module _ {h : Hardware} (is : IsSound h) where
         program = is.program;
       }
 
-  none_left : (stores : List QueuedStore) → is_drained (record h { committed = stores }) ≡ true → stores ≡ []
-  none_left stores drained = grind (arith, false≢true)
-
   -- the effect of FENCE.I is such a one, once the queue is drained and the cache written back
   pub fence_serial : is_drained h ≡ true → (lines : Lines) (word : ℕ) →
       IsSerialEffect (with_write_back h) (effect (layout_of h.values) (seen h) lines word FenceI)
   fence_serial drained lines word =
       let was = is.memory in
-      let none = none_left h.committed drained in
+      let none = drained_none h drained in
       let same : bytes_after h.values.ram_base h.committed h.cache.bytes ≡ h.cache.bytes =
       ap (λ (ss : List QueuedStore). bytes_after h.values.ram_base ss h.cache.bytes) none in
       record {

@@ -39,8 +39,8 @@ module _ (c : Committing) (is : IsSound c.hardware) where
   by_turn (stale_head e es at stale) = no_step c (record c { stop = Some (stop.Stale e.pc) }) refl refl
   by_turn (fence_writes e es head fence drained dirty) = no_step c (written_back c) refl refl
   by_turn (fence_retires e es written next head fence drained) = grind (arith, one_step, here)
-  by_turn (executes e es written next head serial) = grind (arith, one_step, here)
-  by_turn (serial_faults e es cause value head serial) = grind (arith, one_step, here)
+  by_turn (executes e es written next head serial other) = grind (arith, one_step, here)
+  by_turn (serial_faults e es cause value head serial other) = grind (arith, one_step, here)
   by_turn (traps e es issue cycle message fault head plain at faults) = grind (arith, one_step, here)
   by_turn (retires e es issue cycle message head plain at sound) = grind (arith, one_step, here)
   by_turn (retires_last e es issue cycle message head plain at sound) = grind (arith, one_step, here)

@@ -250,8 +250,8 @@ module _ (now : ℕ) (earlier : List Step) (is_stale : set.FinSet nat_cmp → �
 
   turn_placed : {c : Committing} {t : Turn Committing} → CommitTurn is_stale c t → Committed c → Leaves Committed t
   turn_placed {c} (fence_retires e es written next head is drained) p = row_flushes c e es written head.place p
-  turn_placed {c} (executes e es written next head serial) p = row_flushes c e es written head.place p
-  turn_placed {c} (serial_faults e es cause value head serial) p =
+  turn_placed {c} (executes e es written next head serial other) p = row_flushes c e es written head.place p
+  turn_placed {c} (serial_faults e es cause value head serial other) p =
       other_flushes c (Trap e.pc cause value c.hardware.cycle) refl p
   turn_placed {c} (traps e es begun cycle message fault head plain at is) p =
       other_flushes c (Trap e.pc fault.cause fault.value c.hardware.cycle) refl p

@@ -4,12 +4,12 @@ use Rattle.rv_hardware.proofs.Words.{None, All, count_by, Option, AllPairs, sym,
 use Rattle.rv_hardware.proofs.Words.{append-nil, arith, All-weaker, at_kind, Arrival, Values, Each, Hardware}
 use Rattle.rv_hardware.proofs.Words.{AreApartAtPort, DoesNotWait, EachProducer, HasCost, HasOrderedStamps}
 use Rattle.rv_hardware.proofs.Words.{IsBroadcastFirst, IsFetchedAhead, IsFetchedSince, IsKnownBefore, IsNextWord}
-use Rattle.rv_hardware.proofs.Words.{IsTrappedSoon, IssuesWithOperands, Laws, LoadsAfterStore, Report, Cycles}
-use Rattle.rv_hardware.proofs.Words.{Reachable, cycled, ended, steps_of, EachAfter, EachNext, flushes, is_broadcast_in}
-use Rattle.rv_hardware.proofs.Words.{is_buffered_in, is_dispatched_in, is_executing_in, is_fetched_in, is_in_flight_in}
-use Rattle.rv_hardware.proofs.Words.{is_issued_in, is_queued_in, is_stationed_in, producer_among, rows_of, is_interrupt}
-use Rattle.rv_hardware.proofs.Words.{stamp_of, Execution, Row, Step, All-Each, All-right, Each-append, Each-right}
-use Rattle.rv_hardware.proofs.Words.{Each-weaker, Each-both, count-count_by, count-append}
+use Rattle.rv_hardware.proofs.Words.{FencesAfterStore, IsTrappedSoon, IssuesWithOperands, Laws, LoadsAfterStore, Report}
+use Rattle.rv_hardware.proofs.Words.{Cycles, Reachable, cycled, ended, steps_of, EachAfter, EachNext, flushes}
+use Rattle.rv_hardware.proofs.Words.{is_broadcast_in, is_buffered_in, is_dispatched_in, is_executing_in, is_fetched_in}
+use Rattle.rv_hardware.proofs.Words.{is_in_flight_in, is_issued_in, is_queued_in, is_stationed_in, producer_among}
+use Rattle.rv_hardware.proofs.Words.{rows_of, is_interrupt, stamp_of, Execution, Row, Step, All-Each, All-right}
+use Rattle.rv_hardware.proofs.Words.{Each-append, Each-right, Each-weaker, Each-both, count-count_by, count-append}
 use Rattle.rv_hardware.proofs.Laws.HeadsDoNotWait.{law_of_heads_do_not_wait}
 use Rattle.rv_hardware.proofs.Laws.FetchedAhead.{law_of_fetched_ahead}
 use Rattle.rv_hardware.proofs.Laws.TrapsSoon.{law_of_traps_soon}
@@ -25,6 +25,7 @@ use Rattle.rv_hardware.proofs.Laws.NoIdleFetch.{law_of_no_idle_fetch}
 use Rattle.rv_hardware.proofs.Laws.NoIdleUnit.{law_of_no_idle_unit}
 use Rattle.rv_hardware.proofs.Laws.OldestResultFirst.{law_of_oldest_result_first}
 use Rattle.rv_hardware.proofs.Laws.LoadsAfterStores.{law_of_loads_after_stores}
+use Rattle.rv_hardware.proofs.Laws.FencesAfterStores.{law_of_fences_after_stores}
 use Rattle.rv_hardware.proofs.Laws.Operands.{law_of_operands}
 use Rattle.rv_hardware.proofs.Laws.Port.{law_of_port}
 use Rattle.rv_hardware.proofs.Laws.StampsInOrder.{law_of_stamps_in_order}
@@ -152,6 +153,7 @@ module _ {v : Values} {earlier steps : List Step} {old new : Hardware} (run : Ru
         (subst (EachNext IsNextWord) (rows_of_all run) (law_of_fetched_together run.all));
     operands = operands_of_run;
     loads_after_stores = rows_pairs LoadsAfterStore (law_of_loads_after_stores run.all);
+    fences_after_stores = rows_pairs (FencesAfterStore v.cache.hit) (law_of_fences_after_stores run.all);
     bus_width = λ c. rows_count (is_broadcast_in c) v.bus_width (law_of_bus_width run.all c);
     oldest_result_first = rows_pairs IsBroadcastFirst (law_of_oldest_result_first run.all);
     no_idle_bus = law_of_no_idle_bus run;

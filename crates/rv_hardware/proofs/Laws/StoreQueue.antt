@@ -30,16 +30,18 @@ use Rattle.rv_hardware.proofs.Laws.Port.Phases.{drained_idle}
 use Rattle.rv_hardware.proofs.Laws.StoreQueue.Queue.{QueueOk, queued_length, queue_later, queue_next, plain_retires}
 use Rattle.rv_hardware.proofs.Laws.StoreQueue.Queue.{queue_retires, queue_leaves, queue_begins}
 
+-- the tie of a description, by the steps of earlier cycles and of this one
 abbrev pub Queue : Values → ℕ → List Step → Hardware → Type 0
 Queue v now steps h = QueueOk v.cache.hit now (rows_of steps) h.port_free h.committed
 
 -- commit
 
 module _ (v : Values) (now : ℕ) (earlier : List Step) (is_stale : set.FinSet nat_cmp → ℕ → Bool) where
-  abbrev Queues : Committing → Type 0
+  abbrev pub Queues : Committing → Type 0
   Queues c = Queue v now (earlier ++ c.steps) c.hardware
 
-  pushed : (c : Committing) (s : Step) →
+  -- the rows after one more step
+  pub pushed : (c : Committing) (s : Step) →
       rows_of (earlier ++ (c.steps ++ s ∷ [])) ≡ rows_of (earlier ++ c.steps) ++ rows_of (s ∷ [])
   pushed c s = ap rows_of (sym (append_assoc earlier c.steps (s ∷ []))) ∙ rows_append (earlier ++ c.steps) (s ∷ [])
 
@@ -83,16 +85,17 @@ module _ (v : Values) (now : ℕ) (earlier : List Step) (is_stale : set.FinSet n
       rw (pushed c (Retired row))
       (queue_retires ok row c.hardware.rob.retired message.store (stored ∙ sym same) (omega (arith, p.basics.cycle)))
 
-  commit_queue : (c : Committing) (t : Turn Committing) → CommitTurn is_stale c t → InCommit v now earlier is_stale c →
-      Queues c → Leads Queues Queues t
+  -- each turn of the commit phase keeps the tie
+  pub commit_queue : (c : Committing) (t : Turn Committing) → CommitTurn is_stale c t →
+      InCommit v now earlier is_stale c → Queues c → Leads Queues Queues t
   commit_queue c _ (fence_writes e es head is drained dirty) p ok =
       queue_later ok (written_back c).hardware.port_free (omega (arith, drained_idle _ c.hardware drained))
   commit_queue c _ (fence_retires e es written next head is drained) p ok =
       serial_row c e es written (written_back c).hardware.port_free head.place (ap is_serialising is)
       (omega (arith, drained_idle _ c.hardware drained)) p ok
-  commit_queue c _ (executes e es written next head serial) p ok =
+  commit_queue c _ (executes e es written next head serial other) p ok =
       serial_row c e es written c.hardware.port_free head.place serial (omega arith) p ok
-  commit_queue c _ (serial_faults e es cause value head serial) p ok =
+  commit_queue c _ (serial_faults e es cause value head serial other) p ok =
       no_row c (Trap e.pc cause value c.hardware.cycle) (with_fault e cause value c).hardware refl refl refl ok
   commit_queue c _ (traps e es issue cycle message fault head plain at is) p ok =
       no_row c (Trap e.pc fault.cause fault.value c.hardware.cycle)

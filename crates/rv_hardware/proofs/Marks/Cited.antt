@@ -14,6 +14,7 @@ pub use Rattle.rv_hardware.proofs.Turns.Cited.{has_full_queue, waits, WaitsFor, 
 pub use Rattle.rv_hardware.proofs.Turns.Cited.{for_queue, DispatchTurn, buffer_empty, dispatch_turn_is, retires}
 pub use Rattle.rv_hardware.proofs.Turns.Cited.{executes, Head, written_back, executed, retired_with}
 pub use Rattle.rv_hardware.proofs.Turns.Cited.{retired_and_flushed, head_retired_entries, unfinished, traps, CommitTurn}
+pub use Rattle.rv_hardware.proofs.Turns.Cited.{drained_none}
 pub use Rattle.rv_hardware.proofs.Turns.Cited.{no_head, stale_head, fence_waits, fence_writes, fence_retires}
 pub use Rattle.rv_hardware.proofs.Turns.Cited.{serial_faults, retires_last, commit_turn_is}
 pub use Rattle.rv_hardware.proofs.Always.Sizes.{HasShape, HasSizes, sizes-kept}

@@ -118,12 +118,12 @@ module _ {v : Values} {now : ℕ} {R : List Mark → Type 0} (kept : Kept v now 
       after_step c (Retired (row_at e written c.hardware.cycle)) p
       always refl refl refl tt tt (row_sound c e es written head.place may p, tt)
       (row_flushes c e es written head.place may p)
-  turn_goes c _ (executes e es written next head serial) p always =
+  turn_goes c _ (executes e es written next head serial other) p always =
       let may = may_retire_serial e.instruction e.stage serial in
       after_step c (Retired (row_at e written c.hardware.cycle)) p
       always refl refl refl tt tt (row_sound c e es written head.place may p, tt)
       (row_flushes c e es written head.place may p)
-  turn_goes c _ (serial_faults e es cause value head serial) p always =
+  turn_goes c _ (serial_faults e es cause value head serial other) p always =
       after_step c (Trap e.pc cause value c.hardware.cycle) p always refl refl refl tt tt tt
       (no_row c (Trap e.pc cause value c.hardware.cycle) refl)
   turn_goes c _ (traps e es issue cycle message fault head plain at is) p always =

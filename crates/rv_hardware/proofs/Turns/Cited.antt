@@ -24,5 +24,6 @@ pub use Rattle.rv_hardware.proofs.Turns.Dispatch.{waits, WaitsFor, for_serial, f
 pub use Rattle.rv_hardware.proofs.Turns.Dispatch.{DispatchTurn, buffer_empty, dispatch_turn_is}
 pub use Rattle.rv_hardware.proofs.Turns.Commit.{retires, executes, Head, written_back, executed, retired_with}
 pub use Rattle.rv_hardware.proofs.Turns.Commit.{retired_and_flushed, head_retired_entries, unfinished, traps}
-pub use Rattle.rv_hardware.proofs.Turns.Commit.{CommitTurn, no_head, stale_head, fence_waits, fence_writes}
+pub use Rattle.rv_hardware.proofs.Turns.Commit.{CommitTurn, drained_none, no_head, stale_head, fence_waits}
+pub use Rattle.rv_hardware.proofs.Turns.Commit.{fence_writes}
 pub use Rattle.rv_hardware.proofs.Turns.Commit.{fence_retires, serial_faults, retires_last, commit_turn_is}

@@ -1,12 +1,12 @@
 -- A turn of commit finds no head, leaves it waiting, retires it, executes it, traps, or stops at a stale word.
 use Rattle.rv_hardware.proofs.Words.{◌≡◌, ℕ, Bool, true, false, cond, List, [], ◌∷◌, ◌++◌, ◌==◌, Some, None, Option}
-use Rattle.rv_hardware.proofs.Words.{nat_cmp, unwrap_or, refl, ap, is_serialising, pc_plus_4, Message, Cause, Fault}
-use Rattle.rv_hardware.proofs.Words.{Instr, Csr, FenceI, Mret, Issue, word_of, Effect, Faults, Retires, effect, State}
-use Rattle.rv_hardware.proofs.Words.{ReorderBuffer, after_head, head_retired, Entry, Stage, Finished, Committing}
-use Rattle.rv_hardware.proofs.Words.{commit_turn, commit_turn_of, execute_head, finish_broadcast, finish_head}
-use Rattle.rv_hardware.proofs.Words.{head_turn, is_drained, take_effect, with_fault, with_write_back, write_back_time}
-use Rattle.rv_hardware.proofs.Words.{broadcast_of, Ends, GoesOn, Turn, row_of, with_result, written_of, layout_of, seen}
-use Rattle.rv_hardware.proofs.Words.{with_state, flushed, arith}
+use Rattle.rv_hardware.proofs.Words.{nat_cmp, unwrap_or, refl, ap, is_fence_i, is_serialising, pc_plus_4, Message}
+use Rattle.rv_hardware.proofs.Words.{Cause, Fault, Instr, Csr, FenceI, Mret, Issue, word_of, Effect, Faults, Retires}
+use Rattle.rv_hardware.proofs.Words.{effect, State, Hardware, Store, ReorderBuffer, after_head, head_retired, Entry}
+use Rattle.rv_hardware.proofs.Words.{Stage, Finished, Committing, commit_turn, commit_turn_of, execute_head}
+use Rattle.rv_hardware.proofs.Words.{finish_broadcast, finish_head, head_turn, is_drained, take_effect, with_fault}
+use Rattle.rv_hardware.proofs.Words.{with_write_back, write_back_time, broadcast_of, Ends, GoesOn, Turn, row_of}
+use Rattle.rv_hardware.proofs.Words.{with_result, written_of, layout_of, seen, with_state, flushed, arith}
 use Rattle.std.specs.FinSet as set
 use Rattle.rv_arch.specs.declared.outcome.Stop.TheVariants as stop
 
@@ -48,6 +48,14 @@ pub head_retired_entries : (r : ReorderBuffer) (e : Entry) (es : List Entry) →
     (head_retired r).entries ≡ es
 head_retired_entries r e es at = entries_after r e es r.entries at
 
+stores_drained : (h : Hardware) {stores : List Store} → h.committed ≡ stores →
+    is_drained (record h { committed = stores }) ≡ true → h.committed ≡ []
+stores_drained h are drained = grind arith
+
+-- where a FENCE.I waits no longer, no retired store waits for the cache
+pub drained_none : (h : Hardware) → is_drained h ≡ true → h.committed ≡ []
+drained_none h drained = stores_drained h refl drained
+
 module _ (is_stale : set.FinSet nat_cmp → ℕ → Bool) where
   -- nothing is in flight; the head is stale, unfinished or a FENCE.I that waits; it retires, executes or traps
   pub data CommitTurn (c : Committing) : Turn Committing → Type 0 where
@@ -65,9 +73,11 @@ module _ (is_stale : set.FinSet nat_cmp → ℕ → Bool) where
         e.instruction ≡ Some FenceI → is_drained c.hardware ≡ true →
         CommitTurn c (Ends (executed e written next (written_back c)))
     executes : (e : Entry) (es : List Entry) (written : Option (ℕ × ℕ)) (next : State) → Head is_stale c e es →
-        is_serialising e.instruction ≡ true → CommitTurn c (Ends (executed e written next c))
+        is_serialising e.instruction ≡ true → is_fence_i e.instruction ≡ false →
+        CommitTurn c (Ends (executed e written next c))
     serial_faults : (e : Entry) (es : List Entry) (cause : Cause) (value : ℕ) → Head is_stale c e es →
-        is_serialising e.instruction ≡ true → CommitTurn c (Ends (with_fault e cause value c))
+        is_serialising e.instruction ≡ true → is_fence_i e.instruction ≡ false →
+        CommitTurn c (Ends (with_fault e cause value c))
     traps : (e : Entry) (es : List Entry) (issue : Option Issue) (cycle : ℕ) (message : Message) (fault : Fault) →
         Head is_stale c e es → is_serialising e.instruction ≡ false → e.stage ≡ Finished issue cycle message →
         message.fault ≡ Some fault → CommitTurn c (Ends (with_fault e fault.cause fault.value c))
@@ -79,9 +89,10 @@ module _ (is_stale : set.FinSet nat_cmp → ℕ → Bool) where
         message.fault ≡ None → CommitTurn c (Ends (retired_and_flushed e message c))
 
   module _ {c : Committing} {e : Entry} {es : List Entry} (head : Head is_stale c e es) where
-    by_effect : is_serialising e.instruction ≡ true → (result : Effect) → CommitTurn c (Ends (take_effect e result c))
-    by_effect serial (Retires written next) = executes e es written next head serial
-    by_effect serial (Faults cause value) = serial_faults e es cause value head serial
+    by_effect : is_serialising e.instruction ≡ true → is_fence_i e.instruction ≡ false → (result : Effect) →
+        CommitTurn c (Ends (take_effect e result c))
+    by_effect serial other (Retires written next) = executes e es written next head serial other
+    by_effect serial other (Faults cause value) = serial_faults e es cause value head serial other
 
     by_write_back : e.instruction ≡ Some FenceI → is_drained c.hardware ≡ true → (b : Bool) →
         (write_back_time c.hardware == 0) ≡ b →
@@ -121,7 +132,7 @@ module _ (is_stale : set.FinSet nat_cmp → ℕ → Bool) where
     by_instruction (Some FenceI) is = by_drained is (is_drained c.hardware) refl
     by_instruction (Some (Csr op rd csr source)) is = grind (arith, by_effect)
     by_instruction (Some Mret) is =
-        by_effect (ap is_serialising is)
+        by_effect (ap is_serialising is) (ap is_fence_i is)
         (effect (layout_of c.hardware.values) (seen c.hardware) c.hardware.lines (unwrap_or e.word 0) Mret)
     by_instruction i is = by_stage (ap is_serialising is) e.stage refl
 

@@ -60,8 +60,8 @@ module _ {P : Hardware → Type 0} (kept : IsKeptByCommit P) where
     commit_outcome-keeps {c} (fence_writes e es head is drained dirty) holds = kept.writes_back c.hardware holds drained
     commit_outcome-keeps {c} (fence_retires e es written next head is drained) holds =
         took_effect e written next (written_back c) (kept.writes_back c.hardware holds drained)
-    commit_outcome-keeps {c} (executes e es written next head serial) holds = took_effect e written next c holds
-    commit_outcome-keeps {c} (serial_faults e es cause value head serial) holds = faulted e cause value c holds
+    commit_outcome-keeps {c} (executes e es written next head serial other) holds = took_effect e written next c holds
+    commit_outcome-keeps {c} (serial_faults e es cause value head serial other) holds = faulted e cause value c holds
     commit_outcome-keeps {c} (traps e es issue cycle message fault head plain at is) holds =
         faulted e fault.cause fault.value c holds
     commit_outcome-keeps {c} (retired e es issue cycle message head plain at none) holds =

@@ -99,8 +99,8 @@ IsUnused c = c.steps ≡ [] → c.hardware.committed ≡ []
 turn_unused : {c : Committing} {t : Turn Committing} → CommitTurn set.contains c t → IsUnused c →
     Leads IsUnused IsUnused t
 turn_unused {c} (fence_retires e es written next head is drained) p = λ none. not_empty c.steps _ none
-turn_unused {c} (executes e es written next head serial) p = λ none. not_empty c.steps _ none
-turn_unused {c} (serial_faults e es cause value head serial) p = λ none. not_empty c.steps _ none
+turn_unused {c} (executes e es written next head serial other) p = λ none. not_empty c.steps _ none
+turn_unused {c} (serial_faults e es cause value head serial other) p = λ none. not_empty c.steps _ none
 turn_unused {c} (traps e es issue cycle message fault head plain at is) p = λ none. not_empty c.steps _ none
 turn_unused {c} (retires e es issue cycle message head plain at none) p = λ empty. not_empty c.steps _ empty
 turn_unused {c} (retires_last e es issue cycle message head plain at none) p = λ empty. not_empty c.steps _ empty

@@ -1,12 +1,12 @@
 -- After a step the next instruction neither waits without need nor was it fetched late.
-use Rattle.rv_hardware.proofs.Words.{◌≡◌, ℕ, suc, ◌+◌, ◌<◌, ◌≤◌, max, Bool, true, false, ◌&&◌, ◌⊎◌, List, [], ◌∷◌, ◌++◌}
-use Rattle.rv_hardware.proofs.Words.{length, is_some, Some, None, Option, option_map, nat_cmp, unwrap_or, sym, refl, ap}
-use Rattle.rv_hardware.proofs.Words.{◌∙◌, subst, inl, inr, true≢false, append_assoc, arith, length-append, is_fence_i}
+use Rattle.rv_hardware.proofs.Words.{◌≡◌, ℕ, suc, ◌+◌, ◌<◌, ◌≤◌, max, Bool, true, false, ◌&&◌, List, [], ◌∷◌, ◌++◌}
+use Rattle.rv_hardware.proofs.Words.{is_some, Some, None, Option, option_map, nat_cmp, unwrap_or, sym, refl, ap}
+use Rattle.rv_hardware.proofs.Words.{◌∙◌, subst, inl, inr, append_assoc, arith, is_fence_i}
 use Rattle.rv_hardware.proofs.Words.{is_serialising, is_store, kind_of_word, Message, Cause, Fault, Instr, FenceI}
 use Rattle.rv_hardware.proofs.Words.{Issue, Values, word_of, Stop, Each, Entry, Stage, Finished, Fetched, Committing}
-use Rattle.rv_hardware.proofs.Words.{commit_turn, commit_unless, fence_instructions, with_fault, Hardware, broadcast_of}
-use Rattle.rv_hardware.proofs.Words.{DoesNotWait, IsTrappedSoon, Ends, Turn, execution_of, written_of, is_store_row}
-use Rattle.rv_hardware.proofs.Words.{last_that, needs_no_unit, stamp_of, Execution, Row, Step, Retired, Trap, by_test}
+use Rattle.rv_hardware.proofs.Words.{commit_turn, commit_unless, with_fault, Hardware, broadcast_of}
+use Rattle.rv_hardware.proofs.Words.{DoesNotWait, IsTrappedSoon, Turn, execution_of, written_of, is_store_row}
+use Rattle.rv_hardware.proofs.Words.{last_that, needs_no_unit, stamp_of, Execution, Step, Retired, Trap}
 use Rattle.rv_hardware.proofs.Words.{not_both, EveryAfter, EveryAfter-append, Leads, leads_both, turns_within}
 use Rattle.std.specs.FinSet as set
 use Rattle.rv_hardware.proofs.Marks.Cited.{CommitTurn, Head, no_head, stale_head, unfinished, fence_waits, fence_writes}
@@ -115,37 +115,8 @@ module _ {v : Values} {now s : ℕ} {store_waits : Bool} {stale : set.FinSet nat
   serial_by_stage i D st serial held since = grind (arith, not_both, kind_is_plain)
 
   serial_follows : (cause : Cause) (value : ℕ) → is_serialising e.instruction ≡ true →
-      (is_fence_i e.instruction ≡ true → ⊥) → Follows s store_waits (Trap e.pc cause value now)
+      is_fence_i e.instruction ≡ false → Follows s store_waits (Trap e.pc cause value now)
   serial_follows cause value serial other = grind (arith, not_both, serial_by_stage, no_store, serial_has_no_kind)
-
--- ---- a FENCE.I that executes does not trap
-
-abbrev is_trap : Option Step → Bool
-is_trap (Some (Trap pc cause value cycle)) = true
-is_trap _ = false
-
--- no more steps, or one more row
-abbrev LeavesRow : List Step → List Step → Type 0
-LeavesRow steps left = (left ≡ steps) ⊎ ((row : Row) × (left ≡ steps ++ Retired row ∷ []))
-
-fence_leaves : (e : Entry) (c : Committing) → LeavesRow c.steps (fence_instructions e c).steps
-fence_leaves e c = grind (arith, by_test)
-
-no_trap : (steps left : List Step) (pc : ℕ) (cause : Cause) (value cycle : ℕ) → LeavesRow steps left →
-    steps ++ Trap pc cause value cycle ∷ [] ≡ left → ⊥
-no_trap steps left pc cause value cycle (inl same) is =
-    let all = length-append steps (Trap pc cause value cycle ∷ []) in
-    omega (arith, all, ap (λ (l : List Step). length l) is, ap (λ (l : List Step). length l) same)
-no_trap steps left pc cause value cycle (inr (row, same)) is =
-    true≢false (ap is_trap
-    (sym (last_from-append None (λ s. true) steps (Trap pc cause value cycle ∷ [])) ∙
-    ap (λ (l : List Step). last_that (λ s. true) l) (is ∙ same) ∙
-    last_from-append None (λ s. true) steps (Retired row ∷ [])))
-
-fence_does_not_trap : (c : Committing) (e : Entry) (es : List Entry) (cause : Cause) (value : ℕ) →
-    Head set.contains c e es → is_fence_i e.instruction ≡ true →
-    Ends (with_fault e cause value c) ≡ commit_turn set.contains c → ⊥
-fence_does_not_trap c e es cause value head fence is = grind (arith, is_fence, no_trap, fence_leaves)
 
 -- ---- the commit phase of cycle `now`, after the steps of earlier cycles
 
@@ -245,45 +216,43 @@ module _ (v : Values) (now : ℕ) (earlier : List Step) where
         inr (inr (inl
         (subst (λ (y : Entry). is_fence_i y.instruction ≡ true) (same_head e x es rest head.place at) fence)))
 
-  turn_leads : (total k : ℕ) (c : Committing) (t : Turn Committing) → t ≡ commit_turn set.contains c →
-      CommitTurn set.contains c t → InCommit c → Going k c → Leads InCommit InCommit t →
-      Leads (Going (suc k)) Committed t
-  turn_leads total k c _ turn (no_head none) q p goes =
+  turn_leads : (total k : ℕ) (c : Committing) (t : Turn Committing) → CommitTurn set.contains c t → InCommit c →
+      Going k c → Leads InCommit InCommit t → Leads (Going (suc k)) Committed t
+  turn_leads total k c _ (no_head none) q p goes =
       standing c.stop p (λ x rest at. absurd (let no_more = sym none ∙ at in cc))
-  turn_leads total k c _ turn (stale_head e es at is) q p goes =
+  turn_leads total k c _ (stale_head e es at is) q p goes =
       let same = standing c.stop p
       (λ x rest at'.
       inr (inl (subst (λ (y : Entry). set.contains c.hardware.stale (word_of y.pc) ≡ true)
       (same_head e x es rest at at') is))) in
       record { follow = same.follow; next = same.next }
-  turn_leads total k c _ turn (unfinished e es head plain none) q p goes =
+  turn_leads total k c _ (unfinished e es head plain none) q p goes =
       standing c.stop p
       (λ x rest at.
       inr (inr (inr
       (subst (λ (y : Entry). IsKnownSince (now + 1) y.instruction y.dispatched y.stage)
       (same_head e x es rest head.place at)
       (unfinished_since (now + 1) e.dispatched e.instruction e.stage plain none)))))
-  turn_leads total k c _ turn (fence_waits e es head is busy) q p goes =
+  turn_leads total k c _ (fence_waits e es head is busy) q p goes =
       standing c.stop p (fence_stands k c e es head q p (ap is_fence_i is))
-  turn_leads total k c _ turn (fence_writes e es head is drained dirty) q p goes =
+  turn_leads total k c _ (fence_writes e es head is drained dirty) q p goes =
       let same = standing c.stop p (fence_stands k c e es head q p (ap is_fence_i is)) in
       record { follow = same.follow; next = same.next }
-  turn_leads total k c _ turn (fence_retires e es written next head is drained) q p goes =
+  turn_leads total k c _ (fence_retires e es written next head is drained) q p goes =
       flushing c (executed e written next (written_back c)).hardware c.stop q.basics.cycle p.follow
       (retired_follows k c e es head q p written (may_retire_serial e.instruction e.stage (ap is_serialising is)))
       refl refl
-  turn_leads total k c _ turn (executes e es written next head serial) q p goes =
+  turn_leads total k c _ (executes e es written next head serial other) q p goes =
       flushing c (executed e written next c).hardware c.stop q.basics.cycle p.follow
       (retired_follows k c e es head q p written (may_retire_serial e.instruction e.stage serial)) refl refl
-  turn_leads total k c _ turn (serial_faults e es cause value head serial) q p goes =
+  turn_leads total k c _ (serial_faults e es cause value head serial other) q p goes =
       let follows = serial_follows (head_sound k c e es head q p)
-      (head_next k c e es head q p) head.fresh cause value serial
-      (λ fence. fence_does_not_trap c e es cause value head fence turn) in
+      (head_next k c e es head q p) head.fresh cause value serial other in
       flushing c (with_fault e cause value c).hardware (with_fault e cause value c).stop q.basics.cycle p.follow
       (subst (λ n. Follows (last_stamp (earlier ++ c.steps)) (has_step (earlier ++ c.steps)) (Trap e.pc cause value n))
       (sym q.basics.cycle) follows)
       refl refl
-  turn_leads total k c _ turn (traps e es issue cycle message fault head plain at is) q p goes =
+  turn_leads total k c _ (traps e es issue cycle message fault head plain at is) q p goes =
       let follows = trap_follows (head_sound k c e es head q p) (head_next k c e es head q p) head.fresh plain at is
       (head_found k c e es head q p) in
       flushing c (with_fault e fault.cause fault.value c).hardware
@@ -292,7 +261,7 @@ module _ (v : Values) (now : ℕ) (earlier : List Step) where
       Follows (last_stamp (earlier ++ c.steps)) (has_step (earlier ++ c.steps)) (Trap e.pc fault.cause fault.value n))
       (sym q.basics.cycle) follows)
       refl refl
-  turn_leads total k c _ turn (retires e es issue cycle message head plain at none) q p goes =
+  turn_leads total k c _ (retires e es issue cycle message head plain at none) q p goes =
       let x : Step = Retired (row_at e (written_of e message) c.hardware.cycle) in
       let last = last_is c x q.basics.cycle in
       record {
@@ -302,7 +271,7 @@ module _ (v : Values) (now : ℕ) (earlier : List Step) where
         later =
             λ some. rw last (next-now v (now + 1) now _ _ _ _ (omega arith) goes.basics.entries goes.basics.fetched);
       }
-  turn_leads total k c _ turn (retires_last e es issue cycle message head plain at none) q p goes =
+  turn_leads total k c _ (retires_last e es issue cycle message head plain at none) q p goes =
       flushing c (retired_and_flushed e message c).hardware c.stop q.basics.cycle p.follow
       (retired_follows k c e es head q p (written_of e message) (may_retire_finished e.instruction at none)) refl refl
 
@@ -322,6 +291,6 @@ module _ (v : Values) (now : ℕ) (earlier : List Step) where
       let goes_on = commit_turn_keeps (anything_is_kept v now) earlier set.contains
       (commit_turn_is set.contains c) p.0 in
       leads_both InCommit (Going (suc k)) Committed (commit_turn set.contains c) goes_on
-      (turn_leads total k c (commit_turn set.contains c) refl (commit_turn_is set.contains c) p.0 p.1 goes_on))
+      (turn_leads total k c (commit_turn set.contains c) (commit_turn_is set.contains c) p.0 p.1 goes_on))
       (λ c p. record { follow = p.1.follow; next = p.1.later le }) h.values.commit_width 0 first (omega (arith, width))
       (goes, record { follow = follow; next = next; later = λ some. absurd (omega (arith, some)) })

@@ -109,10 +109,10 @@ module _ (v : Values) (now : ℕ) (earlier : List Step) (is_stale : set.FinSet n
       one_more c (Retired (row_at e written c.hardware.cycle))
       (executed e written next (written_back c)).hardware q.basics.cycle (omega arith)
       (head_next c e es written head.place p) p
-  commit_follows c _ (executes e es written next head serial) q p =
+  commit_follows c _ (executes e es written next head serial other) q p =
       one_more c (Retired (row_at e written c.hardware.cycle))
       (executed e written next c).hardware q.basics.cycle (omega arith) (head_next c e es written head.place p) p
-  commit_follows c _ (serial_faults e es cause value head serial) q p =
+  commit_follows c _ (serial_faults e es cause value head serial other) q p =
       one_more c (Trap e.pc cause value c.hardware.cycle)
       (with_fault e cause value c).hardware q.basics.cycle (omega arith)
       (no_row_next c (Trap e.pc cause value c.hardware.cycle) (λ a. tt) p) p

@@ -185,11 +185,11 @@ module _ (v : Values) (now : ℕ) (earlier : List Step) (before : Each (λ s. st
       steps_up_to total lt
       (flushing (Retired (row_at e written c.hardware.cycle)) p q.basics.cycle refl
       (row_since c e es written head.place p.steps.entries) c.stop goes refl refl)
-  turn_leads total k c _ lt (executes e es written next head serial) q p goes =
+  turn_leads total k c _ lt (executes e es written next head serial other) q p goes =
       steps_up_to total lt
       (flushing (Retired (row_at e written c.hardware.cycle)) p q.basics.cycle refl
       (row_since c e es written head.place p.steps.entries) c.stop goes refl refl)
-  turn_leads total k c _ lt (serial_faults e es cause value head serial) q p goes =
+  turn_leads total k c _ lt (serial_faults e es cause value head serial other) q p goes =
       steps_up_to total lt
       (flushing (Trap e.pc cause value c.hardware.cycle) p q.basics.cycle refl
       (no_row_since (Trap e.pc cause value c.hardware.cycle) (earlier ++ c.steps) (λ a. tt))
