@@ -4,7 +4,7 @@
 use Rattle.rv_hardware.proofs.Words.{[], ◌∷◌, false, Some, None, refl, Early, StoreAddressMisaligned}
 use Rattle.rv_isa.specs.Csr as csr
 use Rattle.rv_isa.specs.declared.causes.Cause.TheVariants.{InstructionAddressMisaligned, IllegalInstruction}
-use Rattle.rv_isa.specs.declared.causes.Cause.TheVariants.{LoadAddressMisaligned}
+use Rattle.rv_isa.specs.declared.causes.Cause.TheVariants.{EnvironmentCall, LoadAddressMisaligned}
 use Rattle.rv_isa.specs.declared.operations.Kind.TheVariants as kind
 use Rattle.rv_decode.specs.Decodes.{instruction_of}
 use Rattle.rv_decode.specs.InstructionTable.{table}
@@ -81,6 +81,21 @@ squashed_load_keeps_the_port : ReportsAt 0 (record machine { ram_base = 0 })
     breakpoint 0x00000010 15)
 unfolding instruction_of table
 squashed_load_keeps_the_port = computed [] refl refl refl
+
+-- a load after a call of the environment keeps the port for its cost
+trap_keeps_the_port : Reports (record machine { cache = record machine.cache { miss = 40 } })
+    (0x00000297 ∷ 0x01c28293 ∷ 0x30529073 ∷ 0x00000417 ∷ 0x02004333 ∷ 0x00000073 ∷ 0x04042383 ∷ 0x08042483 ∷
+    ebreak ∷ []) 94
+    (executed 0x80000000 0x00000297 (Some (5, 0x80000000)) 0 1 2 1 3 4 ∷
+    executed 0x80000004 0x01c28293 (Some (5, 0x8000001c)) 0 1 4 1 5 6 ∷
+    serialised 0x80000008 0x30529073 None 1 2 6 ∷
+    executed 0x8000000c 0x00000417 (Some (8, 0x8000000c)) 6 7 8 1 9 10 ∷
+    executed 0x80000010 0x02004333 (Some (6, 0xffffffff)) 6 7 8 16 24 25 ∷
+    Trap 0x80000014 EnvironmentCall 0 25 ∷
+    executed 0x8000001c 0x08042483 (Some (9, 0x0)) 25 26 51 41 92 93 ∷
+    breakpoint 0x80000020 93)
+unfolding instruction_of table csr.order
+trap_keeps_the_port = computed [] refl refl refl
 
 -- a load does not wait for a store that faults: it brings its line in before the trap
 load_after_a_faulting_store_takes_its_line : Reports machine

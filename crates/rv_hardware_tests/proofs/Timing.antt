@@ -243,6 +243,29 @@ full_reorder_buffer_comes_before_a_full_store_queue : WaitsFor (record machine {
 unfolding instruction_of table
 full_reorder_buffer_comes_before_a_full_store_queue = waits [] refl refl refl
 
+-- a division, and a CSR instruction that waits for it: that is the reason before the full reorder buffer
+serialising_comes_before_a_full_reorder_buffer : WaitsFor (record machine { rob = 2 })
+    (0x027342b3 ∷ 0x30501073 ∷ 0x00000013 ∷ ebreak ∷ []) 4
+    (Some stall.Fetch ∷
+    None ∷
+    Some stall.Serial ∷
+    Some stall.Serial ∷
+    [])
+unfolding instruction_of table csr.order
+serialising_comes_before_a_full_reorder_buffer = waits [] refl refl refl
+
+-- early recovery from beq x0,x0,8 empties the fetch buffer, which is the reason beside the full reorder buffer
+empty_fetch_buffer_comes_before_a_full_reorder_buffer : WaitsFor (record early { rob = 1 })
+    (0x00000463 ∷ 0x00000000 ∷ ebreak ∷ []) 5
+    (Some stall.Fetch ∷
+    None ∷
+    Some stall.Rob ∷
+    Some stall.Fetch ∷
+    None ∷
+    [])
+unfolding instruction_of table
+empty_fetch_buffer_comes_before_a_full_reorder_buffer = waits [] refl refl refl
+
 -- jal x0,8 with early recovery
 jump_is_mended_at_broadcast : Reports early
     (0x0080006f ∷ 0x00000000 ∷ ebreak ∷ []) 6
