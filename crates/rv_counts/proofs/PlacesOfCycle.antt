@@ -85,9 +85,9 @@ module _ (all : ℕ) where
   turn_takes : (c : Committing) (t : Turn Committing) → CommitTurn set.contains c t → AreTaken c → Leaves AreTaken t
   turn_takes c _ (fence_retires e es written next head is clean) few =
       omega (arith, few, ap length head.place, one_taken c.steps (row_of e written c.hardware.cycle) (omega arith))
-  turn_takes c _ (executes e es written next head serial) few =
+  turn_takes c _ (executes e es written next head serial other) few =
       omega (arith, few, ap length head.place, one_taken c.steps (row_of e written c.hardware.cycle) (omega arith))
-  turn_takes c _ (serial_faults e es cause value head serial) few =
+  turn_takes c _ (serial_faults e es cause value head serial other) few =
       omega (
         arith,
         few,
