@@ -21,18 +21,6 @@ abbrev pub HasAddress : ℕ → List WordCounts → Type 0
 HasAddress address [] = ⊥
 HasAddress address (word ∷ words) = (word.address ≡ address) ⊎ HasAddress address words
 
--- the counts at a place are those of an address
-abbrev pub IsPlaceOf : ℕ → ℕ → List WordCounts → Type 0
-IsPlaceOf = kept.IsPlaceOf address_of
-
--- there are none of an address, and those before a place are of lower ones, those from it on of higher ones
-abbrev pub IsPlaceFor : ℕ → ℕ → List WordCounts → Type 0
-IsPlaceFor = kept.IsPlaceFor address_of
-
 -- a change of the counts at an address, which are nothing where there are none yet
 abbrev pub with_change : ℕ → (WordCounts → WordCounts) → List WordCounts → List WordCounts
 with_change = kept.with_change address_of nothing_at
-
--- any change of the counts at a place of the new list is that change of the counts of an address in the old one
-abbrev pub StandsFor : ℕ → ℕ → List WordCounts → List WordCounts → Type 0
-StandsFor = kept.StandsFor address_of nothing_at

@@ -5,7 +5,7 @@ ghost use Rattle.rv_counts.specs.Counts.{one_more, with_retired, with_waits};
 use crate::loads::LoadCosts;
 use crate::passing::{broadcast_wait, dispatch_wait, issue_wait, retirement_wait};
 use crate::wait::Wait;
-use rv_passage::{Ending, Passage};
+use rv_passage::{Addressed, Ending, Passage};
 
 /// What became of the instructions that were fetched at an address. The waits, the hits, the misses and the wrong
 /// predictions are those of the instructions that retired.
@@ -45,11 +45,16 @@ fn one_more(is: bool, count: u64) -> u64
     if is { count + 1 } else { count }
 }
 
-impl WordCounts {
-    /// Nothing at an address.
-    pub(crate) fn new(address: u32) -> WordCounts
-        ensures { result ≡ nothing_at address }
-    {
+impl Addressed for WordCounts {
+    ghost address_of = { λ word. word.address };
+
+    ghost nothing_at = { nothing_at };
+
+    fn address(&self) -> u32 {
+        self.address
+    }
+
+    fn begin(address: u32) -> WordCounts {
         WordCounts {
             address,
             fetched: 0,
@@ -65,7 +70,9 @@ impl WordCounts {
             head_cycles: 0,
         }
     }
+}
 
+impl WordCounts {
     // Counts what an instruction that retired waited for.
     fn add_waits(&mut self, passage: &Passage)
         requires room { CanCount self.old }

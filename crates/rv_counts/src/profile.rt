@@ -1,15 +1,14 @@
-ghost use Rattle.std.specs.Prelude.{◌≡◌, ◌+◌, ◌≤◌, ◌<◌, [], length, insert, filter};
-ghost use Rattle.std.specs.Prelude.{vec_capacity, vec_len, IfErr, IfOk, OnErr};
-ghost use Rattle.rv_counts.specs.Counts.{added, nothing_at, once_more_at_head};
+ghost use Rattle.std.specs.Prelude.{◌≡◌, ◌+◌, ◌≤◌, [], length, filter, IfOk, OnErr};
+ghost use Rattle.rv_counts.specs.Counts.{added, once_more_at_head};
 ghost use Rattle.rv_counts.specs.Following.{CanCountMore, HasRoom, with_cycle, with_head, with_passages};
 ghost use Rattle.rv_counts.specs.Load.{costs_of};
-ghost use Rattle.rv_counts.specs.Order.{IsInOrder, IsPlaceFor, IsPlaceOf, StandsFor, with_change};
+ghost use Rattle.rv_counts.specs.Order.{IsInOrder, with_change};
 ghost use Rattle.rv_counts.specs.Passing.{has_left};
 
 use crate::counts::WordCounts;
 use crate::loads::LoadCosts;
 use rv_isa::Description;
-use rv_passage::{Passage, up_to_youngest_left};
+use rv_passage::{Passage, place_of, up_to_youngest_left};
 use std::alloc::{AllocError, Global};
 use std::marker::Model;
 
@@ -41,25 +40,6 @@ impl Model for Profile {
     ghost invariant = { λ profile. IsInOrder profile.words.items };
 }
 
-// The place of the counts of an address, or where they would have to stand.
-fn search(words: &[WordCounts], address: u32) -> Result<usize, usize>
-    requires order { IsInOrder words.now }
-    ensures found { IfOk result (λ place. IsPlaceOf address place words.now) }
-    ensures absent { IfErr result (λ place. IsPlaceFor address place words.now) }
-{
-    words.binary_search_by_key(&address, |word| word.address)
-}
-
-// Puts in counts of an address, at which there is nothing yet.
-fn begin_at(words: &mut Vec<WordCounts>, place: usize, address: u32)
-    requires within { place ≤ vec_len words.old }
-    requires room { vec_len words.old < vec_capacity words.old }
-    ensures items { words.new.items ≡ insert words.old.items place (nothing_at address) }
-    ensures capacity { vec_capacity words.old ≤ vec_capacity words.new }
-{
-    words.insert(place, WordCounts::new(address)).unwrap();
-}
-
 impl Profile {
     /// The counts of no cycle. The description says what loads cost.
     pub fn new(alloc: Global, description: &Description) -> Profile
@@ -89,25 +69,6 @@ impl Profile {
         self.words.reserve(MOST_IN_CYCLE)
     }
 
-    // The place of the counts of an address, which begin there where there are none yet.
-    fn place_of(&mut self, address: u32) -> usize
-        requires room { length self.old.words < self.old.capacity }
-        ensures costs { self.new.costs ≡ self.old.costs }
-        ensures within { result < length self.new.words }
-        ensures words { self.new.words ≡ with_change address (λ word. word) self.old.words }
-        ensures order { IsInOrder self.old.words }
-        ensures changes { StandsFor address result self.old.words self.new.words }
-        ensures capacity { self.old.capacity ≤ self.new.capacity }
-    {
-        match search(self.words.as_slice(), address) {
-            Ok(place) => place,
-            Err(place) => {
-                begin_at(&mut self.words, place, address);
-                place
-            }
-        }
-    }
-
     // Counts a passage.
     fn add(&mut self, passage: &Passage)
         requires room { HasRoom self.old 1 }
@@ -115,7 +76,7 @@ impl Profile {
         ensures words { self.new.words ≡ with_change passage.now.pc (added self.old.costs passage.now) self.old.words }
         ensures capacity { self.old.capacity ≤ self.new.capacity }
     {
-        let place = self.place_of(passage.pc);
+        let place = place_of(&mut self.words, passage.pc);
         self.words[place].add(&self.costs, passage);
     }
 
@@ -126,7 +87,7 @@ impl Profile {
         ensures words { self.new.words ≡ with_change address once_more_at_head self.old.words }
         ensures capacity { self.old.capacity ≤ self.new.capacity }
     {
-        let place = self.place_of(address);
+        let place = place_of(&mut self.words, address);
         self.words[place].add_head();
     }
 

@@ -3,6 +3,7 @@
 //! The pictures and logs of a run stand on it.
 #![tactic(auto)]
 
+mod by_address;
 mod following;
 mod in_flight;
 mod kept;
@@ -14,6 +15,7 @@ mod put;
 mod rows;
 mod table;
 
+pub use by_address::{Addressed, place_of, search};
 pub use in_flight::MOST_IN_FLIGHT;
 pub use left::up_to_youngest_left;
 pub use names::register_name;
