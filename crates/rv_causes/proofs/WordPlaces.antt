@@ -2,8 +2,8 @@
 use Rattle.std.proofs.Common.{◌≡◌, ℕ, zero, suc, ◌<◌, nat_lt, List, [], ◌∷◌, length, get_or, refl, sym, arith}
 use Rattle.std.proofs.Common.{eq-eqb, ne_eqb, inl, inr}
 use Rattle.std.proofs.lemmas.Bool.{cases_Bool, ltb-true, ltb-false}
-use Rattle.rv_causes.specs.Account.{AreWithin, IsWithin, cycles_at}
-use Rattle.rv_causes.specs.Words.{IsPlaceFor, IsPlaceOf}
+use Rattle.rv_passage.specs.ByAddress.{IsPlaceFor, IsPlaceOf}
+use Rattle.rv_causes.specs.Account.{AreWithin, IsWithin, address_of, cycles_at}
 use Rattle.rv_causes.specs.declared.word_cycles.WordCycles.{WordCycles}
 
 -- all have what each has
@@ -35,12 +35,12 @@ module _ (address : ℕ) where
 
 module _ (address : ℕ) (words : List WordCycles) (place : ℕ) where
   -- the cycles of an address are those of the word at its place
-  pub cycles-there : IsPlaceOf address place words → (w : WordCycles) → (get_or words place w).cycles
+  pub cycles-there : IsPlaceOf address_of address place words → (w : WordCycles) → (get_or words place w).cycles
       ≡ cycles_at address words
   cycles-there is w = sym (found-there address words place w is.within is.before (is.there w))
 
   -- and none where there is no word of it
-  pub cycles-none : IsPlaceFor address place words → 0 ≡ cycles_at address words
+  pub cycles-none : IsPlaceFor address_of address place words → 0 ≡ cycles_at address words
   cycles-none is = sym (found-none address words (λ k w within same. elim (cases_Bool (nat_lt k place)) [
     | inl below ↦ let low = is.before k w (ltb-true k place below) in omega (arith, same, low)
     | inr not_below ↦ let high = is.after k w (ltb-false k place not_below) within in omega (arith, same, high)

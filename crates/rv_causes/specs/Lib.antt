@@ -6,7 +6,6 @@ pub mod Causes
 pub mod Way
 pub mod Walk
 pub mod Account
-pub mod Words
 pub mod Window
 pub mod Meeting
 pub mod Sought

@@ -1,10 +1,10 @@
-ghost use Rattle.std.specs.Prelude.{◌≡◌, ◌+◌, ◌≤◌, ◌<◌, ◌^◌, [], length, insert};
-ghost use Rattle.std.specs.Prelude.{vec_capacity, vec_len, IfErr, IfOk, sum};
-ghost use Rattle.rv_causes.specs.Account.{CanHaveMore, no_cycles, with_change, with_cycles, with_more};
+ghost use Rattle.std.specs.Prelude.{◌≡◌, ◌+◌, ◌≤◌, ◌<◌, ◌^◌, [], length, vec_capacity, IfOk, sum};
+ghost use Rattle.rv_passage.specs.ByAddress.{IsInOrder, IsInOrder-prop};
+ghost use Rattle.rv_causes.specs.Account.{CanHaveMore, address_of, no_cycles, with_change, with_cycles, with_more};
 ghost use Rattle.rv_causes.specs.declared.word_cycles.WordCycles.{WordCycles};
-ghost use Rattle.rv_causes.specs.Words.{IsInOrder, IsInOrder-prop, IsPlaceFor, IsPlaceOf, StandsFor};
 
 use crate::cause::{CAUSES, Cause};
+use rv_passage::{Addressed, place_of, search_address};
 use std::alloc::{AllocError, Global};
 
 /// How many cycles of a path are those of a word of the program, and how many of them each cause has.
@@ -15,18 +15,25 @@ pub struct WordCycles {
     pub(crate) causes: [u64; CAUSES],
 }
 
-impl WordCycles {
-    // A word that has none.
-    fn new(address: u32) -> WordCycles
-        ensures { result ≡ no_cycles address }
-    {
+impl Addressed for WordCycles {
+    ghost address_of = { λ word. word.address };
+
+    ghost nothing_at = { no_cycles };
+
+    fn address(&self) -> u32 {
+        self.address
+    }
+
+    fn begin(address: u32) -> WordCycles {
         WordCycles {
             address,
             cycles: 0,
             causes: [0; CAUSES],
         }
     }
+}
 
+impl WordCycles {
     // Counts so many cycles more of a cause.
     fn add(&mut self, cause: Cause, cycles: u64)
         requires counted { sum self.old.causes ≡ self.old.cycles }
@@ -42,7 +49,7 @@ impl WordCycles {
 #[derive(Drop)]
 pub struct Words {
     pub(crate) words: Vec<WordCycles>,
-    ghost order: { IsInOrder words.items } by { IsInOrder-prop words.items },
+    ghost order: { IsInOrder address_of words.items } by { IsInOrder-prop address_of words.items },
 }
 
 /// Counts so many cycles more of a cause.
@@ -52,25 +59,6 @@ pub(crate) fn add_cycles(causes: &mut [u64; CAUSES], cause: Cause, cycles: u64)
     ensures sum { sum causes.new ≡ sum causes.old + cycles }
 {
     causes[cause.place()] += cycles;
-}
-
-// The place of the word of an address, or where it would have to stand.
-fn search(words: &[WordCycles], address: u32) -> Result<usize, usize>
-    requires order { IsInOrder words.now }
-    ensures found { IfOk result (λ place. IsPlaceOf address place words.now) }
-    ensures absent { IfErr result (λ place. IsPlaceFor address place words.now) }
-{
-    words.binary_search_by_key(&address, |word| word.address)
-}
-
-// Puts in the word of an address.
-fn begin_at(words: &mut Vec<WordCycles>, place: usize, address: u32)
-    requires within { place ≤ vec_len words.old }
-    requires room { vec_len words.old < vec_capacity words.old }
-    ensures items { words.new.items ≡ insert words.old.items place (no_cycles address) }
-    ensures capacity { vec_capacity words.old ≤ vec_capacity words.new }
-{
-    words.insert(place, WordCycles::new(address)).unwrap();
 }
 
 impl Words {
@@ -101,24 +89,6 @@ impl Words {
         self.words.reserve(more)
     }
 
-    // The place of the word of an address, which begins there where there is none yet.
-    fn place_of(&mut self, address: u32) -> usize
-        requires room { length self.old.words.items < vec_capacity self.old.words }
-        ensures within { result < length self.new.words.items }
-        ensures words { self.new.words.items ≡ with_change address (λ word. word) self.old.words.items }
-        ensures order { IsInOrder self.old.words.items }
-        ensures changes { StandsFor address result self.old.words.items self.new.words.items }
-        ensures capacity { vec_capacity self.old.words ≤ vec_capacity self.new.words }
-    {
-        match search(self.words.as_slice(), address) {
-            Ok(place) => place,
-            Err(place) => {
-                begin_at(&mut self.words, place, address);
-                place
-            }
-        }
-    }
-
     /// Counts so many cycles more of a cause at an address.
     pub(crate) fn add(&mut self, address: u32, cause: Cause, cycles: u64)
         requires room { length self.old.words.items < vec_capacity self.old.words }
@@ -127,7 +97,7 @@ impl Words {
         ensures few { length self.new.words.items ≤ length self.old.words.items + 1 }
         ensures capacity { vec_capacity self.old.words ≤ vec_capacity self.new.words }
     {
-        let place = self.place_of(address);
+        let place = place_of(&mut self.words, address);
         self.words[place].add(cause, cycles);
     }
 
@@ -135,7 +105,7 @@ impl Words {
     pub fn cycles_at(&self, address: u32) -> u64
         ensures { result ≡ cycles_at address self.now.words.items }
     {
-        match search(self.words.as_slice(), address) {
+        match search_address(self.words.as_slice(), address) {
             Ok(place) => self.words[place].cycles,
             Err(_) => 0,
         }

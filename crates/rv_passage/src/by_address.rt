@@ -17,7 +17,7 @@ pub trait Addressed: Drop {
 }
 
 /// The place of what is kept for an address, or where it would have to stand.
-pub fn search<T: Addressed>(kept: &[T], address: u32) -> Result<usize, usize>
+pub fn search_address<T: Addressed>(kept: &[T], address: u32) -> Result<usize, usize>
     requires order { IsInOrder T.address_of kept.now }
     ensures found { IfOk result (λ place. IsPlaceOf T.address_of address place kept.now) }
     ensures absent { IfErr result (λ place. IsPlaceFor T.address_of address place kept.now) }
@@ -44,7 +44,7 @@ pub fn place_of<T: Addressed>(kept: &mut Vec<T>, address: u32) -> usize
     ensures changes { StandsFor T.address_of T.nothing_at address result kept.old.items kept.new.items }
     ensures capacity { vec_capacity kept.old ≤ vec_capacity kept.new }
 {
-    match search(kept.as_slice(), address) {
+    match search_address(kept.as_slice(), address) {
         Ok(place) => place,
         Err(place) => {
             begin_at(kept, place, address);

@@ -15,7 +15,7 @@ mod put;
 mod rows;
 mod table;
 
-pub use by_address::{Addressed, place_of, search};
+pub use by_address::{Addressed, place_of, search_address};
 pub use in_flight::MOST_IN_FLIGHT;
 pub use left::up_to_youngest_left;
 pub use names::register_name;

@@ -1,7 +1,7 @@
 use Rattle.std.proofs.Common.{rules}
 use Rattle.std.proofs.lemmas.List.Sorted.{answers_always}
 use Rattle.rv_passage.proofs.ByAddress.{searched}
-use Rattle.rv_passage.proofs.by_address.search.Goals as goal
+use Rattle.rv_passage.proofs.by_address.search_address.Goals as goal
 
 pub returns-clause-found : goal.returns-clause-found
 returns-clause-found g c =
