@@ -1,6 +1,6 @@
 -- The operands of data, piece by piece.
-use Rattle.std.proofs.Common.{◌≡◌, ◌∙◌, ◌<◌, List, [], ◌∷◌, map, length, Bool, true, false, ◌&&◌, Option, None}
-use Rattle.std.proofs.Common.{Some, Ok, Err, ok_or, unwrap_or, pos, option_and_then, refl, ap, sym, arith}
+use Rattle.std.proofs.Common.{◌≡◌, ◌∙◌, ◌<◌, List, [], ◌∷◌, map, length, Bool, true, false, ◌&&◌, Option, None, Some}
+use Rattle.std.proofs.Common.{Ok, Err, ok_or, unwrap_or, pos, option_and_then, refl, ap, sym, arith}
 use Rattle.std.specs.List.{list_all, slice_split}
 use Rattle.std.specs.Option.{option_map, option_map_or}
 use Rattle.std.proofs.lemmas.List.{length-map}
@@ -23,9 +23,7 @@ taken_next : (found : Option Operand) (others : Option (List Operand)) →
     option_map_or (list_all (takes place.Value))
     (option_and_then (λ first. option_map (λ rest. first ∷ rest) others) found) false
     ≡ (option_map_or (takes place.Value) found false && option_map_or (list_all (takes place.Value)) others false)
-taken_next None others = refl
-taken_next (Some o) None = sym (and_false (takes place.Value o))
-taken_next (Some o) (Some rest) = refl
+taken_next given others = grind (arith, and_false, takes)
 
 -- each piece is an expression where all are read and each is one
 taken : (pieces : List (List spec.Token)) → option_map_or (list_all (takes place.Value)) (operands_in pieces) false

@@ -1,6 +1,6 @@
 -- What is appended, one part after another.
-use Rattle.std.proofs.Common.{◌≡◌, ◌∙◌, ◌+◌, ◌-◌, ◌<◌, ℕ, List, [], ◌∷◌, ◌++◌, map, take, drop, get_or}
-use Rattle.std.proofs.Common.{length, Result, Ok, Err, IfOk, OnOk, sym, refl, ap, arith, append_assoc}
+use Rattle.std.proofs.Common.{◌≡◌, ◌∙◌, ◌+◌, ◌-◌, ◌<◌, ℕ, List, [], ◌∷◌, ◌++◌, map, take, drop, get_or, length, Result}
+use Rattle.std.proofs.Common.{Ok, Err, IfOk, OnOk, sym, ap, arith, append_assoc}
 use Rattle.std.specs.Prelude.{replicate}
 use Rattle.std.proofs.lemmas.List.{append-nil, drop_more, take_all}
 use Rattle.std.specs.Int.{to_le_bytes, w32}
@@ -9,7 +9,6 @@ use Rattle.rv_asm.specs.Meaning.{Cell, Byte', Word', Spells, nothing, byte, word
 use Rattle.rv_asm.specs.Statement.{and_then}
 use Rattle.rv_asm.specs.declared.fault.AsmFault.{AsmFault}
 use Rattle.rv_asm.specs.declared.operation.Section.{Section}
-use Rattle.rv_asm.specs.declared.operation.Section.TheVariants.{Text, Data}
 use Rattle.rv_isa.specs.declared.instructions.Instr.{Instr}
 
 -- parts one after the other are spelled by their bytes one after the other
@@ -33,9 +32,7 @@ appends_nothing a = record { bytes = []; spells = nothing; appended = sym (appen
 
 added : {T : Type 0} (section : Section) (r : Result T AsmFault) (meaning : Result (List Cell) AsmFault)
     (a b : List ℕ) → IfOk r (λ _. Emits meaning a b) → OnOk r (Appends (parts_in section section meaning) a b)
-added Text (Ok x) meaning a b put = rw put.means put.appends
-added Data (Ok x) meaning a b put = rw put.means put.appends
-added section (Err fault) meaning a b put = tt
+added given given1 meaning a b put = grind arith
 
 -- a line adds what it means to the section that it stands in
 pub added_here : {T : Type 0} (section own : Section) (r : Result T AsmFault) (meaning : Result (List Cell) AsmFault)
@@ -57,12 +54,7 @@ emits_nothing meaning a means = record { parts = []; means = means; appends = ap
 -- where the bytes of an instruction's word are appended, lowest first, the instruction is
 pub appends_word : (i : Instr) (w : ℕ) (old new : List ℕ) → IsWordOf i w → new ≡ old ++ to_le_bytes w32 w →
     Appends (Word' i ∷ []) old new
-appends_word i w old new is e =
-    record {
-      bytes = to_le_bytes w32 w ++ [];
-      spells = word is nothing;
-      appended = e ∙ ap (λ l. old ++ l) (sym (append-nil (to_le_bytes w32 w)));
-    }
+appends_word i w old new is e = grind (arith, word, nothing)
 
 spells_bytes : (bytes : List ℕ) → Spells (map Byte' bytes) bytes
 spells_bytes [] = nothing
@@ -89,13 +81,7 @@ rest_is xs i x is within = drop_more xs i x within ∙ ap (λ y. y ∷ drop (i +
 pub emits_more : {first : Result (List Cell) AsmFault} (rest : Result (List Cell) AsmFault) {a b : List ℕ} (c : List ℕ)
     (result : Result Unit AsmFault) → Emits first a b → EmitsOrRefuses rest b c result →
     EmitsOrRefuses (and_then first (λ parts. and_then rest (λ others. Ok (parts ++ others)))) a c result
-emits_more rest c (Ok done) put more =
-    record {
-      parts = put.parts ++ more.parts;
-      means = rw (put.means, more.means) refl;
-      appends = appends_more put.appends more.appends;
-    }
-emits_more rest c (Err fault) put more = λ not_memory. rw (put.means, more not_memory) refl
+emits_more rest c given put more = grind (arith, appends_more)
 
 -- whatever the rest of the parts spells, after these bytes it spells all of them
 abbrev pub Begins : List Cell → List Cell → List ℕ → Type 0

@@ -1,20 +1,20 @@
 -- A statement that is no data has three operands at most.
-use Rattle.std.proofs.Common.{◌≡◌, ◌≢◌, ◌∙◌, ◌<◌, ◌≤◌, ◌==◌, ℕ, suc, List, [], ◌∷◌, map, length, Bool, true, false}
-use Rattle.std.proofs.Common.{cond, Option, None, Some, Result, Ok, Err, IfErr, ok_or, option_and_then, refl, ap, arith}
+use Rattle.std.proofs.Common.{◌≡◌, ◌≢◌, ◌<◌, ◌≤◌, ◌==◌, ℕ, suc, List, [], ◌∷◌, map, length, Bool, true, false, cond}
+use Rattle.std.proofs.Common.{Option, None, Some, Result, Ok, Err, IfErr, ok_or, option_and_then, refl, ap, arith}
 use Rattle.std.specs.List.{slice_split}
 use Rattle.std.specs.Option.{option_map, option_map_or}
 use Rattle.std.specs.Result.{result_err}
 use Rattle.rv_asm.specs.Answer.{Follows, RefusedBy}
-use Rattle.rv_asm.specs.Faults.{is_unmet, moved}
+use Rattle.rv_asm.specs.Faults.{moved}
 use Rattle.rv_asm.specs.Layout.{Meanings, advance, unless_too_large}
 use Rattle.rv_asm.specs.Operand.{Operand, Value, Number, Symbol, is_comma, operand, operands_in}
 use Rattle.rv_asm.specs.Read.{token_of}
-use Rattle.rv_asm.specs.Statement.{Instruction, and_then, fill, imply, instruction, is_data, is_implied}
-use Rattle.rv_asm.specs.Statement.{jal_places, jalr_places, needed, operands_read, put, statement, takes}
+use Rattle.rv_asm.specs.Statement.{Instruction, and_then, fill, imply, instruction, is_data, is_implied, jal_places}
+use Rattle.rv_asm.specs.Statement.{jalr_places, needed, operands_read, put, statement, takes}
 use Rattle.rv_asm.specs.Token as spec
-use Rattle.rv_asm.specs.declared.{fault.AsmFault.AsmFault, operation.Fields.Fields}
-use Rattle.rv_asm.specs.declared.{operation.Form.Form, operation.Operation.Operation}
-use Rattle.rv_asm.specs.declared.{operation.Place.Place, reach.Reach.Reach, token.Token.Token}
+use Rattle.rv_asm.specs.declared.{fault.AsmFault.AsmFault, operation.Fields.Fields, operation.Form.Form}
+use Rattle.rv_asm.specs.declared.{operation.Operation.Operation, operation.Place.Place, reach.Reach.Reach}
+use Rattle.rv_asm.specs.declared.{token.Token.Token}
 use Rattle.rv_asm.specs.declared.fault.AsmFault.TheVariants.{BadOperands, Memory}
 use Rattle.rv_asm.specs.declared.operation.Form.TheVariants as form
 use Rattle.rv_asm.specs.declared.operation.Operation.TheVariants as operation
@@ -69,9 +69,7 @@ statement_past _ a b c d rest other = refl
 
 counted_next : (found : Option Operand) (others : Option (List Operand)) (n : ℕ) → option_map_or length others n ≡ n →
     option_map_or length (option_and_then (λ first. option_map (λ rest. first ∷ rest) others) found) (suc n) ≡ suc n
-counted_next None others n is = refl
-counted_next (Some o) None n is = refl
-counted_next (Some o) (Some rest) n is = ap suc is
+counted_next given others n is = grind arith
 
 -- as many operands are read as there are pieces
 counted : (pieces : List (List spec.Token)) → option_map_or length (operands_in pieces) (length pieces) ≡ length pieces
@@ -111,19 +109,13 @@ pub read_refused : {V : Type 0} (meaning : V → List Operand) (r : Result V Asm
     Follows meaning r (ok_or found BadOperands) →
     IfErr r (λ fault. fault ≢ Memory → (form : Form) → is_data form ≡ false →
     and_then (ok_or found BadOperands) (statement form) ≡ Err BadOperands)
-read_refused meaning (Ok v) found follows = tt
-read_refused meaning (Err fault) found follows = λ not_memory form other.
-    ap (λ read. and_then read (statement form)) (follows not_memory
-    ∙ ap Err (fault_read found fault (follows not_memory)))
+read_refused meaning given found follows = grind (arith, statement, fault_read)
 
 module _ (meanings : Meanings) (reach : Reach) where
   -- what has no statement moves nothing
   pub moved_refused : (form : Form) (read : Result (List Operand) AsmFault) →
       and_then read (statement form) ≡ Err BadOperands → and_then read (moved meanings reach form) ≡ Err BadOperands
-  moved_refused form (Ok operands) is =
-      either (is_unmet meanings (needed form operands)) _ _ _ refl
-      (ap (λ r. and_then r (λ said. unless_too_large (advance meanings said reach))) is)
-  moved_refused form (Err fault) is = let same : fault ≡ BadOperands = cc in ap Err same
+  moved_refused form given is = grind (arith, either)
 
   -- data need no symbol
   pub moved_data : (width : Width) (read : Result (List Operand) AsmFault) →

@@ -1,6 +1,6 @@
 -- What is kept of the lines gives the same image and the same fault as all of them.
-use Rattle.std.proofs.Common.{◌≡◌, ◌∙◌, ℕ, ◌+◌, List, [], ◌∷◌, ◌++◌, map, Bool, true}
-use Rattle.std.proofs.Common.{false, cond, Result, Ok, refl, ap, subst, ◌==◌, arith}
+use Rattle.std.proofs.Common.{◌≡◌, ◌∙◌, ℕ, ◌+◌, List, [], ◌∷◌, ◌++◌, map, Bool, true, false, cond, Result, Ok, refl, ap}
+use Rattle.std.proofs.Common.{◌==◌, arith}
 use Rattle.std.specs.List.{slice_split}
 use Rattle.std.specs.Option.{option_map, option_or}
 use Rattle.rv_asm.specs.Faults.{earliest, second_fault, second_fault_of}
@@ -27,9 +27,7 @@ idle_says_nothing line idle = record { nothing = nothing_said line.statement (gr
 
 module _ (base : ℕ) (whole : Layout) where
   nothing_in : (part section : Section) → parts_in part section (Ok []) ≡ []
-  nothing_in Text Text = refl
-  nothing_in Data Data = refl
-  nothing_in _ _ = refl
+  nothing_in given given1 = grind arith
 
   -- some lines have the same parts and the same fault as others
   record Same (lines all : List Kept) : Type 0 where
@@ -50,10 +48,7 @@ module _ (base : ℕ) (whole : Layout) where
     one : Same (kept number layout (bytes ∷ others))
         (record { number = number; bytes = bytes; place = place layout.reach (line_in bytes) }
         ∷ kept (number + 1) (extended layout (line_in bytes)) others)
-    one =
-        kept_one (record { number = number; bytes = bytes; place = place layout.reach (line_in bytes) })
-        (kept (number + 1) (extended layout (line_in bytes)) others)
-        (is_idle (place layout.reach (line_in bytes))) refl
+    one = grind (arith, kept_one, place, layout, kept, is_idle)
 
   -- the parts of a section
   pub kept_contents : (part : Section) (number : ℕ) (layout : Layout) (lines : List (List ℕ)) →
@@ -82,23 +77,14 @@ module _ (base : ℕ) (text : List ℕ) (whole : Layout) (lines : List Kept) (wh
     (lines_are : lines ≡ kept 1 unlaid (slice_split (λ byte. byte == 10) text)) where
   -- the first fault of the lines that are kept is that of the second pass over the text
   pub same_fault : first_with_fault (second_fault base whole) lines ≡ second_fault_of base (lines_of text)
-  same_fault =
-      ap (first_with_fault (second_fault base whole)) lines_are
-      ∙ kept_fault base whole 1 unlaid (slice_split (λ byte. byte == 10) text)
-      ∙ ap (λ l. earliest 1 (map (second_fault base l) (placed unlaid (lines_of text)))) whole_is
+  same_fault = grind (arith, kept_fault, placed)
 
   pub same_parts : (part : Section) → contents base whole part (places lines) ≡ section_parts base part (lines_of text)
-  same_parts part =
-      ap (λ l. contents base whole part (places l)) lines_are
-      ∙ kept_contents base whole part 1 unlaid (slice_split (λ byte. byte == 10) text)
-      ∙ ap (λ l. contents base l part (placed unlaid (lines_of text))) whole_is
+  same_parts part = grind (arith, places, kept_contents, placed)
 
   -- bytes that spell the parts of the lines that are kept spell the image of the text
   pub same_image : (bytes : List ℕ) →
       Spells (contents base whole Text (places lines)
       ++ after_text whole.reach.text_size whole.reach.data_size (contents base whole Data (places lines))) bytes →
       Spells (image_parts base (lines_of text)) bytes
-  same_image bytes spells =
-      subst (λ parts. Spells parts bytes)
-      (λ i. same_parts Text i
-      ++ after_text (whole_is i).reach.text_size (whole_is i).reach.data_size (same_parts Data i)) spells
+  same_image bytes spells = grind (arith, same_parts)

@@ -1,14 +1,14 @@
 -- The operands that tokens spell, piece by piece.
-use Rattle.std.proofs.Common.{rules, ◌≡◌, ◌≢◌, ◌∙◌, ◌<◌, ◌≤◌, ◌-◌, ℕ, None, drop, arith, length}
-use Rattle.std.proofs.Common.{List, [], ◌∷◌, ◌++◌, map, Bool, true, false, cond, Some, Option}
-use Rattle.std.proofs.Common.{Result, Ok, Err, IfOk, Bor, sym, refl, ap, option_and_then}
+use Rattle.std.proofs.Common.{rules, ◌≡◌, ◌≢◌, ◌∙◌, ◌<◌, ◌≤◌, ◌-◌, ℕ, None, drop, arith, length, List, [], ◌∷◌, ◌++◌}
+use Rattle.std.proofs.Common.{map, Bool, true, false, cond, Some, Option, Result, IfOk, Bor, sym, refl, ap}
+use Rattle.std.proofs.Common.{option_and_then}
 use Rattle.std.specs.Global.{Vec}
 use Rattle.std.specs.List.{slice_split, onto_first}
 use Rattle.std.specs.Option.{option_map}
 use Rattle.std.proofs.lemmas.List.{map-append}
 use Rattle.std.proofs.lemmas.Simd.{map-map}
-use Rattle.rv_asm.specs.Operand.{Expression, Operand, Indirect, Value, based, expression}
-use Rattle.rv_asm.specs.Operand.{in_parentheses, operand, operands_in, operands_of, is_comma}
+use Rattle.rv_asm.specs.Operand.{Expression, Operand, Indirect, Value, based, expression, in_parentheses, operand}
+use Rattle.rv_asm.specs.Operand.{operands_in, operands_of, is_comma}
 use Rattle.rv_asm.specs.Read.{operand_of, token_of}
 use Rattle.rv_asm.specs.Token as spec
 use Rattle.rv_asm.specs.Token.{LeftParenthesis, Name, RightParenthesis}
@@ -42,9 +42,7 @@ slice_split-map (x ∷ xs) = cut_at (separates x) x _ _ (slice_split-map xs)
 pub pieces_are : {E : Type 0} (r : Result (Vec (Bor (List Token))) E) (tokens : List Token) →
     IfOk r (λ v. map (λ x. x.now) v.items ≡ slice_split separates tokens) →
     IfOk r (λ v. map (λ x. map token_of x.now) v.items ≡ slice_split is_comma (map token_of tokens))
-pieces_are (Ok v) tokens e = sym (map-map (map token_of) (λ x. x.now) v.items) ∙ ap (map (map token_of)) e
-    ∙ sym (slice_split-map tokens)
-pieces_are (Err f) tokens e = tt
+pieces_are given tokens e = grind (arith, map-map, slice_split-map)
 
 -- the operands of tokens, where there are some, are those of their pieces
 pub operands_of-pieces : (tokens : List Token) → 0 < length tokens →
@@ -59,9 +57,7 @@ module _ (all : Option (List Operand)) (piece : List spec.Token) (rest others : 
   -- the operands so far, what the next piece is found to be, and the operands of the others are all of them
   pub joined-found : (found : Option Operand) → found ≡ operand piece →
       joined operand_of done (option_and_then (λ first. option_map (λ l. first ∷ l) (operands_in others)) found) ≡ all
-  joined-found found found_is =
-      ap (λ f. joined operand_of done (option_and_then (λ first. option_map (λ l. first ∷ l) (operands_in others)) f))
-      found_is ∙ sym (ap (λ l. joined operand_of done (operands_in l)) rest_is) ∙ so_far
+  joined-found found found_is = grind (arith, joined)
 
   -- a piece is an operand
   pub joined-operand : (o : read.Operand) → Some (operand_of o) ≡ operand piece →
@@ -71,10 +67,7 @@ module _ (all : Option (List Operand)) (piece : List spec.Token) (rest others : 
 
 -- four tokens or more are no expression
 expression-long : (t u v w : spec.Token) (rest : List spec.Token) → expression (t ∷ u ∷ v ∷ w ∷ rest) ≡ None
-expression-long (spec.Name name) spec.Plus (spec.Number number) w rest = refl
-expression-long (spec.Name name) spec.Minus (spec.Number number) w rest = refl
-expression-long spec.Minus (spec.Number number) v w rest = refl
-expression-long _ _ _ w rest = refl
+expression-long given given1 given2 w rest = grind arith
 
 based-none : (offset : Option Expression) → based offset None ≡ None
 based-none None = refl
@@ -97,12 +90,7 @@ operand-six (spec.Text bytes) u v w x y = refl
 operand-six _ u v w x y = refl
 
 operand-many : (t u v w x y z : spec.Token) (rest : List spec.Token) → operand (t ∷ u ∷ v ∷ w ∷ x ∷ y ∷ z ∷ rest) ≡ None
-operand-many t u v w x y z rest = is_expression t
-    ∙ ap (option_map Value) (expression-long t u v w (x ∷ y ∷ z ∷ rest)) where
-      is_expression : (t : spec.Token) → operand (t ∷ u ∷ v ∷ w ∷ x ∷ y ∷ z ∷ rest)
-          ≡ option_map Value (expression (t ∷ u ∷ v ∷ w ∷ x ∷ y ∷ z ∷ rest))
-      is_expression (spec.Text bytes) = refl
-      is_expression _ = refl
+operand-many t u v w x y z rest = grind (arith, expression-long, operand)
 
 -- what stands before a name in parentheses is its offset
 module _ (name : List ℕ) where

@@ -1,10 +1,9 @@
 -- Whether digits write a number, and what std reads of them.
-use Rattle.std.proofs.Common.{◌≡◌, ◌≢◌, ℕ, zero, suc, ◌<◌, ◌≤◌, Bool, true, false, cond, List, []}
-use Rattle.std.proofs.Common.{◌∷◌, length, drop, Some, None, Result, Ok, Err, refl, ap, arith}
+use Rattle.std.proofs.Common.{◌≡◌, ◌≢◌, ℕ, zero, suc, ◌<◌, ◌≤◌, Bool, true, false, cond, List, [], ◌∷◌, length, Some}
+use Rattle.std.proofs.Common.{None, Result, Ok, Err, refl, ap, arith}
 use Rattle.std.specs.Bool.{Decides}
 use Rattle.std.specs.Char.{is_digit, digit_value}
 use Rattle.std.specs.List.{list_all, slice_get, slice_index}
-use Rattle.std.specs.Prelude.{◌==◌}
 use Rattle.std.specs.Result.{OkIff, result_ok}
 use Rattle.std.specs.Str.{IsAscii}
 use Rattle.std.specs.Str.Parse.{AllDigits, IsNumeral, digits_value, without_leading_plus}
@@ -31,9 +30,7 @@ first_is (digit ∷ digits) first found = cc
 
 -- a text that does not begin with a plus sign is the same without a leading one
 pub without_plus : (digits : List ℕ) → slice_index digits 0 ≢ 43 → without_leading_plus digits ≡ digits
-without_plus digits no_plus =
-    let differs : (slice_index digits 0 == 43) ≡ false = grind (arith, nat_tests) in
-    ap (λ b. drop (cond b 1 0) digits) differs
+without_plus digits no_plus = grind arith
 
 -- a text that begins with a plus sign is not made of digits of a base of 36 at most
 pub plus_is_no_digit : (base : ℕ) (digits : List ℕ) → base ≤ 36 → slice_index digits 0 ≡ 43 → AllDigits base digits → ⊥

@@ -1,31 +1,25 @@
 -- The words of the lines that are kept are those of all lines.
-use Rattle.std.proofs.Common.{◌≡◌, ◌∙◌, ◌+◌, ◌-◌, ◌*◌, ◌<◌, ◌≤◌, ◌==◌, ℕ, List, [], ◌∷◌, ◌++◌, map}
-use Rattle.std.proofs.Common.{replicate, Bool, true, false, cond, ◌&&◌, Option, Some, refl, ap, sym, arith}
+use Rattle.std.proofs.Common.{◌≡◌, ◌∙◌, ◌+◌, ◌-◌, ◌*◌, ◌<◌, ◌≤◌, ◌==◌, ℕ, List, [], ◌∷◌, ◌++◌, map, replicate, Bool}
+use Rattle.std.proofs.Common.{true, false, cond, ◌&&◌, Option, Some, refl, ap, sym, arith}
 use Rattle.std.specs.Prelude.{nat_le, nat_lt}
 use Rattle.std.specs.List.{range_with_len, slice_split}
-use Rattle.std.proofs.lemmas.Bool.Decides.{nat_tests}
 use Rattle.rv_source.specs.Listing as source
 use Rattle.rv_source.specs.Listing.{Listed}
 use Rattle.rv_asm.proofs.Moves.{idle_stays, line_grows, lines_grow, place_reach}
 use Rattle.rv_asm.proofs.Ranges.{split_range}
 use Rattle.rv_asm.specs.Kept.{Kept, is_idle, kept}
 use Rattle.rv_asm.specs.Layout.{Layout, extended, laid, layout, line_in, lines_of, offset_in, unlaid}
-use Rattle.rv_asm.specs.Listing.{line_holding, lines_after_text, listing_of, reach_before}
-use Rattle.rv_asm.specs.Listing.{shown, word_count, words_between, words_in}
+use Rattle.rv_asm.specs.Listing.{line_holding, lines_after_text, listing_of, reach_before, shown, word_count}
+use Rattle.rv_asm.specs.Listing.{words_between, words_in}
 use Rattle.rv_asm.specs.Placed.{place}
 use Rattle.rv_asm.specs.declared.{operation.Section.Section, reach.Reach.Reach}
 use Rattle.rv_asm.specs.declared.operation.Section.TheVariants.{Text, Data}
 
 held : (a b i : ℕ) → word_count a ≤ i → i < word_count b → (nat_le a (4 * i) && nat_lt (4 * i) b) ≡ true
-held a b i above below =
-    let first : a ≤ 4 * i = omega (arith, above) in
-    let last : 4 * i < b = omega (arith, below) in
-    grind (arith, nat_tests)
+held a b i above below = grind arith
 
 held_not : (a b i : ℕ) → word_count b ≤ i → (nat_le a (4 * i) && nat_lt (4 * i) b) ≡ false
-held_not a b i above =
-    let last : b ≤ 4 * i = omega (arith, above) in
-    grind (arith, nat_tests)
+held_not a b i above = grind arith
 
 grows : (a b : ℕ) → a ≤ b → word_count a ≤ word_count b
 grows a b le = omega (arith, le)

@@ -1,14 +1,13 @@
 -- The operands of tags and values that were written for a producer, and the mask of those that wait.
 use Rattle.std.proofs.Common.{◌≡◌, sym, ℕ, suc, ◌+◌, ◌-◌, ◌*◌, ◌<◌, ◌≤◌, ◌^◌, ◌%◌, ◌/◌, not, inl, inr, Bool, true}
 use Rattle.std.proofs.Common.{false, cond, List, [], ◌∷◌, ◌++◌, length, get_or, take, drop, map, replicate, slice_set}
-use Rattle.std.proofs.Common.{bit_and, bit_or, min, max, ◌&&◌, arith, eqb, refl, ap, ap₂, ◌∙◌, mod-eq_of_lt}
-use Rattle.std.proofs.Common.{length-take-le, w64}
+use Rattle.std.proofs.Common.{bit_and, bit_or, min, ◌&&◌, arith, eqb, refl, ap, ap₂, ◌∙◌, length-take-le, w64}
 use Rattle.std.specs.Int.{bit_at}
 use Rattle.std.specs.Simd.Lanes.{zip2, mask_l}
 use Rattle.std.proofs.lemmas.Bool.{cases_Bool, cases_eq, cases_lt, true≢false, eqb-true, eq-eqb, ne_eqb}
 use Rattle.std.proofs.lemmas.List.{get_or-take, get_or-drop, get_or-map, get_or-set_same, get_or-set_other}
-use Rattle.std.proofs.lemmas.List.{get_or_append_left, get_or-append_right, get_or-replicate, length-map}
-use Rattle.std.proofs.lemmas.List.{length-set, length-append, length-drop, take-append-drop}
+use Rattle.std.proofs.lemmas.List.{get_or_append_left, get_or-append_right, get_or-replicate, length-map, length-set}
+use Rattle.std.proofs.lemmas.List.{length-append, length-drop, take-append-drop}
 use Rattle.std.proofs.lemmas.Nat.{pow_pos, shl_whole}
 use Rattle.std.proofs.lemmas.Nat.Bits.{bit_at-zero, bit_at-lt, bit_at_above, bit_at_and, bit_at_or, shr_and_one}
 use Rattle.std.proofs.lemmas.Nat.Bits.{bit_at_not, bit_at_cat_low, bit_at_cat_high}
@@ -43,22 +42,12 @@ operand_of-tag tag held some = rw (ne_eqb tag 18446744073709551615 some) refl
 -- an operand that has its value keeps it, and one with another tag keeps that
 unwoken : (seq value tag held : ℕ) → eqb tag seq ≡ false →
     woken_operand seq value (operand_of tag held) ≡ operand_of tag held
-unwoken seq value tag held other = elim (cases_Bool (eqb tag 18446744073709551615)) [
-  | inl has ↦ rw has refl
-  | inr waits ↦ rw waits (rw other refl)
-]
+unwoken seq value tag held other = grind arith
 
 -- a tag that is the producer's number becomes the value
 operand_of-woken : (seq value tag held : ℕ) → eqb seq 18446744073709551615 ≡ false → value < 2 ^ 32 →
     operand_of (woken_tag seq tag) (woken_value seq value tag held) ≡ woken_operand seq value (operand_of tag held)
-operand_of-woken seq value tag held some small = elim (cases_Bool (eqb tag seq)) [
-  | inl same ↦
-      let equal : tag ≡ seq = eqb-true tag seq same in
-      let waits : eqb tag 18446744073709551615 ≡ false = ap (λ n. eqb n 18446744073709551615) equal ∙ some in
-      let fits : value % 4294967296 ≡ value = mod-eq_of_lt small in
-      rw (same, waits) (rw (same, fits) refl)
-  | inr other ↦ rw other (sym (unwoken seq value tag held other))
-]
+operand_of-woken seq value tag held some small = grind (arith, unwoken)
 
 pub operands-woken : (seq value : ℕ) (tags values : List ℕ) → eqb seq 18446744073709551615 ≡ false → value < 2 ^ 32 →
     zip2 operand_of (map (woken_tag seq) tags) (zip2 (woken_value seq value) tags values)
@@ -71,10 +60,7 @@ operands-woken seq value (t ∷ ts) (v ∷ vs) some small =
 -- an operand that waits has another tag than that of no producer
 woken_by_none : (value tag held : ℕ) →
     woken_operand 18446744073709551615 value (operand_of tag held) ≡ operand_of tag held
-woken_by_none value tag held = elim (cases_Bool (eqb tag 18446744073709551615)) [
-  | inl has ↦ rw has refl
-  | inr waits ↦ unwoken 18446744073709551615 value tag held waits
-]
+woken_by_none value tag held = grind (arith, unwoken)
 
 -- the number of no producer wakes no operand
 pub operands-unwoken : (value : ℕ) (tags values : List ℕ) →
@@ -104,10 +90,7 @@ operands-idle seq value os marked =
 
 -- a tag shows whether there is a value
 pub has_value-operand_of : (tag held : ℕ) → has_value (operand_of tag held) ≡ eqb tag 18446744073709551615
-has_value-operand_of tag held = elim (cases_Bool (eqb tag 18446744073709551615)) [
-  | inl has ↦ rw has refl
-  | inr waits ↦ rw waits refl
-]
+has_value-operand_of tag held = grind arith
 
 -- an operand that has its value has the lower 32 bits of the number held for it
 pub operand_of-has_value : (tag held : ℕ) → has_value (operand_of tag held) ≡ true →
@@ -232,11 +215,7 @@ module _ (ms : List Bool) (start : ℕ) (eight : length ms ≡ 8) (room : start 
 -- an operand whose tag is the number has its value then
 has_value-woken : (seq value tag held : ℕ) → eqb seq 18446744073709551615 ≡ false → value < 2 ^ 32 →
     eqb tag seq ≡ true → has_value (woken_operand seq value (operand_of tag held)) ≡ true
-has_value-woken seq value tag held some small same =
-    let gone : woken_tag seq tag ≡ 18446744073709551615 = rw same refl in
-    ap has_value (sym (operand_of-woken seq value tag held some small))
-    ∙ has_value-operand_of (woken_tag seq tag) (woken_value seq value tag held)
-    ∙ eq-eqb (woken_tag seq tag) 18446744073709551615 gone
+has_value-woken seq value tag held some small same = grind (arith, operand_of-woken, has_value-operand_of)
 
 -- the mask after eight operands are woken
 module _ (seq value start waiting : ℕ) (tags values : List ℕ) (some : eqb seq 18446744073709551615 ≡ false)
@@ -279,10 +258,7 @@ module _ (seq value start waiting : ℕ) (tags values : List ℕ) (some : eqb se
   outside : (at : ℕ) → at < length tags → IsWaitMask operands_now waiting → bit_at (mask_l equals * 2 ^ start) at ≡ 0 →
       get_or operands_after at (Value 0) ≡ get_or operands_now at (Value 0) →
       bit_at after at ≡ cond (has_value (get_or operands_after at (Value 0))) 0 1
-  outside at lt marked none same =
-      not_cleared equals start eight_lanes (omega arith) waiting at (omega arith) none
-      ∙ marked at (omega (arith, long))
-      ∙ ap (λ o. cond (has_value o) 0 1) (sym same)
+  outside at lt marked none same = grind (arith, not_cleared, eight_lanes, long)
 
   inside : (at : ℕ) → at < length tags → start ≤ at → at < start + 8 → IsWaitMask operands_now waiting →
       bit_at after at ≡ cond (has_value (get_or operands_after at (Value 0))) 0 1
@@ -383,13 +359,4 @@ cleared-above mask start place room le lt =
 -- of two masks no bit is set in a place where both operands have their values
 pub both_ready : (first second place : ℕ) (a b : Bool) → bit_at first place ≡ cond a 0 1 →
     bit_at second place ≡ cond b 0 1 → (a && b) ≡ eqb (bit_and (bit_or first second / 2 ^ place) 1) 0
-both_ready first second place a b of_first of_second =
-    let bit : bit_and (bit_or first second / 2 ^ place) 1 ≡ max (cond a 0 1) (cond b 0 1) =
-    shr_and_one (bit_or first second) place ∙ bit_at_or first second place ∙ ap₂ max of_first of_second in
-    rw bit (shown_by a b)
-  where
-    shown_by : (a b : Bool) → (a && b) ≡ eqb (max (cond a 0 1) (cond b 0 1)) 0
-    shown_by true true = refl
-    shown_by true false = refl
-    shown_by false true = refl
-    shown_by false false = refl
+both_ready first second place a b of_first of_second = grind (arith, shr_and_one, bit_at_or)

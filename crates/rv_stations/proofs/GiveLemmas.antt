@@ -1,11 +1,11 @@
 -- Lanes of which those that are left still hold what they held, and the others are woken.
-use Rattle.std.proofs.Common.{◌≡◌, ℕ, ◌<◌, ◌≤◌, ◌+◌, ◌%◌, ◌^◌, List, length, get_or, map, slice_set, cond, Bool, true}
-use Rattle.std.proofs.Common.{false, eqb, refl, sym, ap, ◌∙◌, inl, inr, arith, w32, w64, bit_and, take, replicate, ap₂}
-use Rattle.std.proofs.Common.{[], ◌∷◌, ◌*◌}
+use Rattle.std.proofs.Common.{◌≡◌, ℕ, ◌<◌, ◌≤◌, ◌+◌, ◌%◌, ◌^◌, List, length, get_or, map, slice_set, cond, Bool, false}
+use Rattle.std.proofs.Common.{eqb, refl, sym, ap, ◌∙◌, inl, inr, arith, w32, w64, bit_and, take, replicate, ap₂, []}
+use Rattle.std.proofs.Common.{◌∷◌, ◌*◌}
 use Rattle.std.specs.Int.{bit_at, trailing_zeros}
 use Rattle.std.specs.Simd.Lanes.{zip2}
 use lib.Lanes.{top, mask_l}
-use Rattle.std.proofs.lemmas.Bool.{cases_eq, cases_lt, cases_Bool, eqb-true, eq-eqb}
+use Rattle.std.proofs.lemmas.Bool.{cases_eq, cases_lt}
 use Rattle.std.proofs.lemmas.Grind.{same_number_lists}
 use Rattle.std.proofs.lemmas.List.{take_all, get_or-set_same, get_or-set_other, get_or-map, length-map}
 use Rattle.std.proofs.lemmas.Nat.{and_mask}
@@ -26,16 +26,7 @@ lowest_lane left some few =
 -- where a bit is not set, the tag is not the number
 pub no_like : (seq : ℕ) (tags : List ℕ) (i : ℕ) → i < length tags →
     bit_at (mask_l (map (λ t. eqb (t % 2 ^ 32) (seq % 2 ^ 32)) tags)) i ≡ 0 → eqb (get_or tags i 0) seq ≡ false
-no_like seq tags i lt none = elim (cases_Bool (eqb (get_or tags i 0) seq)) [
-  | inl is ↦
-      let like : eqb (get_or tags i 0 % 2 ^ 32) (seq % 2 ^ 32) ≡ true =
-      eq-eqb (get_or tags i 0 % 2 ^ 32) (seq % 2 ^ 32) (ap (λ n. n % 2 ^ 32) (eqb-true (get_or tags i 0) seq is)) in
-      let set : bit_at (mask_l (map (λ t. eqb (t % 2 ^ 32) (seq % 2 ^ 32)) tags)) i ≡ 1 =
-      bit_mask_l (map (λ t. eqb (t % 2 ^ 32) (seq % 2 ^ 32)) tags) i
-      ∙ ap (λ b. cond b 1 0) (get_or-map (λ t. eqb (t % 2 ^ 32) (seq % 2 ^ 32)) tags i 0 false lt ∙ like) in
-      absurd (omega (arith, set, none))
-  | inr other ↦ other
-]
+no_like seq tags i lt none = grind (arith, bit_mask_l, get_or-map)
 
 -- where none is set, no tag is the number
 pub none_like : (seq : ℕ) (tags : List ℕ) → mask_l (map (λ t. eqb (t % 2 ^ 32) (seq % 2 ^ 32)) tags) ≡ 0 →
@@ -90,14 +81,7 @@ module _ (seq value : ℕ) (tags values : List ℕ) where
   -- before any lane is woken, all that are marked are left, where no other has the number
   pub Giving-start : (like : ℕ) → ((i : ℕ) → i < 8 → bit_at like i ≡ 0 → eqb (get_or tags i 0) seq ≡ false) →
       Giving like 0 tags values
-  Giving-start like others = record {
-    rest_tags = λ i lt set. refl;
-    rest_values = λ i lt set. refl;
-    now_woken = λ i lt none. rw (others i lt none) refl;
-    now_given = λ i lt none. rw (others i lt none) refl;
-    bits = λ i lt none. bit_at-zero i ∙ ap (λ b. cond b 1 0) (sym (others i lt none));
-    above = λ i le lt. bit_at-zero i;
-  }
+  Giving-start like others = grind (arith, bit_at-zero)
 
   -- once one of the lanes that are left is woken, the rest are left
   pub Giving-next : (left next woken woken_next lane : ℕ) (now_tags now_values : List ℕ) → length now_tags ≡ 8 →

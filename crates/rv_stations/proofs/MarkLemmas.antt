@@ -5,7 +5,7 @@ use Rattle.std.proofs.Common.{ap, sym, arith, length-take-le}
 use Rattle.std.specs.Int.{bit_at}
 use Rattle.std.specs.List.{AllPairs}
 use Rattle.std.specs.Option.{option_map}
-use Rattle.std.proofs.lemmas.Bool.{cases_Bool, eqb-true, eq-eqb}
+use Rattle.std.proofs.lemmas.Bool.{cases_Bool}
 use Rattle.std.proofs.lemmas.List.{get_or-take}
 use Rattle.std.proofs.lemmas.List.Elements.{All-cons, All-head, All-more, All-nil, All-tail}
 use Rattle.std.proofs.lemmas.Nat.Bits.{bit_at_and, shr_and_one}
@@ -17,8 +17,8 @@ use Rattle.rv_stations.specs.Waiting.{is_asked, is_ready, loads}
 use Rattle.rv_stations.specs.PoolFields.{some_waiting, nothing, pool, IsMarkedOther, IsSoundPool}
 use Rattle.rv_stations.specs.declared.pool.StationPool.TheInside.{Inside}
 use Rattle.rv_stations.proofs.PlaceLemmas.{All-remove, All-others}
-use Rattle.rv_stations.proofs.PoolLemmas.{length-pool, place_there, ready_by_bits}
-use Rattle.rv_stations.proofs.PoolLemmas.{loads_by_instruction, is_ready-in_place}
+use Rattle.rv_stations.proofs.PoolLemmas.{length-pool, place_there, ready_by_bits, loads_by_instruction}
+use Rattle.rv_stations.proofs.PoolLemmas.{is_ready-in_place}
 
 -- no two places are the same
 abbrev pub AreApart : List ℕ → Type 0
@@ -148,21 +148,10 @@ module _ (p : Inside) (sound : IsSoundPool p) (at : ℕ) (low : at < p.count) wh
     -- an instruction whose bit is not set is not asked
     pub unasked : (loads_wait : Bool) → HoldsAsked loads_wait → bit_at mask place ≡ 0 →
         option_map (is_asked loads_wait) (slice_get (pool p).waiting at) ≡ Some false
-    unasked loads_wait kept none = ap (option_map (is_asked loads_wait)) here
-        ∙ ap Some (elim (cases_Bool (is_ready w)) [
-          | inl ready ↦
-              let idle : bit_at (bit_or a b) place ≡ 0 =
-              sym (shr_and_one (bit_or a b) place) ∙ eqb-true _ _ (sym shown ∙ ready) in
-              unasked_by loads_wait (sym (kept place place_few idle) ∙ none)
-          | inr waits ↦ rw waits refl
-        ])
+    unasked loads_wait kept none = grind (arith, here, shr_and_one, shown, unasked_by, place_few)
 
     -- one whose bit is set is asked
     pub asked : (loads_wait : Bool) → HoldsAsked loads_wait →
         ((k : ℕ) → k < 64 → bit_at mask k ≡ 1 → bit_at (bit_or a b) k ≡ 0) → bit_at mask place ≡ 1 →
         option_map (is_asked loads_wait) (slice_get (pool p).waiting at) ≡ Some true
-    asked loads_wait kept cleared set =
-        let idle : bit_at (bit_or a b) place ≡ 0 = cleared place place_few set in
-        let ready : is_ready w ≡ true = shown ∙ eq-eqb _ _ (shr_and_one (bit_or a b) place ∙ idle) in
-        ap (option_map (is_asked loads_wait)) here
-        ∙ ap Some (asked_by loads_wait ready (sym (kept place place_few idle) ∙ set))
+    asked loads_wait kept cleared set = grind (arith, place_few, shown, shr_and_one, here, asked_by)

@@ -47,19 +47,11 @@ module _ (ns : List ℕ) (fs : List Dispatched) (xs ys : List Operand) (same : S
   pub joined-set : (i : ℕ) (n : ℕ) (f : Dispatched) (x y : Operand) → i < length ns →
       joined (slice_set ns i n) (slice_set fs i f) (slice_set xs i x) (slice_set ys i y)
       ≡ slice_set (joined ns fs xs ys) i (instruction_of (n, f) (x, y))
-  joined-set i n f x y within =
-      ap₂ (zip2 instruction_of)
-      (zip2-set with_dispatched i ns fs n f within (omega (arith, same.dispatched)))
-      (zip2-set both_operands i xs ys x y (omega (arith, same.first)) (omega (arith, same.second)))
-      ∙ zip2-set instruction_of i _ _ (n, f) (x, y) (omega (arith, left)) (omega (arith, right))
+  joined-set i n f x y within = grind (arith, zip2-set, left, right)
 
 -- the lists of a pool's fields are of one length
 pub same_lengths : (p : Inside) → IsSoundPool p → SameLengths p.seqs.items p.dispatched.items p.first p.second
-same_lengths p sound = record {
-  dispatched = omega (arith, sound.dispatched);
-  first = omega (arith, sound.first);
-  second = omega (arith, sound.second);
-}
+same_lengths p sound = grind arith
 
 -- as many instructions wait as are counted
 pub length-pool : (p : Inside) → IsSoundPool p → length (in_places (in_all p) (take p.count p.places.items)) ≡ p.count
@@ -104,9 +96,7 @@ pub slice_get-pool : (p : Inside) (at place n : ℕ) (f : Dispatched) (x y : Ope
     slice_get p.places.items at ≡ Some place → slice_get p.seqs.items place ≡ Some n →
     slice_get p.dispatched.items place ≡ Some f → slice_get p.first place ≡ Some x → slice_get p.second place ≡ Some y →
     slice_get (pool p).waiting at ≡ Some (instruction_of (n, f) (x, y))
-slice_get-pool p at place n f x y low is at_n at_f at_x at_y =
-    slice_get-in_places (in_all p) p.count p.places.items at place (instruction_of (n, f) (x, y)) low is
-    (slice_get-joined p.seqs.items p.dispatched.items p.first p.second place n f x y at_n at_f at_x at_y)
+slice_get-pool p at place n f x y low is at_n at_f at_x at_y = grind (arith, slice_get-in_places, slice_get-joined)
 
 -- the bits of a place show whether the instruction in it is ready
 pub ready_by_bits : (p : Inside) → IsSoundPool p → (a b at place : ℕ) → IsWaitMask p.first a → IsWaitMask p.second b →
@@ -170,9 +160,7 @@ is_ready-in_place ws i w ready is shown =
 -- an instruction that is read at a place has the number that is known there
 pub seq-in_place : (ws : List Waiting) (i : ℕ) (d : Waiting) (seq : ℕ) → option_map seq_of (slice_get ws i) ≡ Some seq →
     i < length ws → (get_or ws i d).seq ≡ seq
-seq-in_place ws i d seq shown within =
-    let same : Some (get_or ws i d).seq ≡ Some seq =
-    sym (ap (option_map seq_of) (slice_get-get_or ws i d within)) ∙ shown in cc same
+seq-in_place ws i d seq shown within = grind (arith, slice_get-get_or)
 
 -- both columns are woken
 pub joined-woken : (seq value : ℕ) (ns : List ℕ) (fs : List Dispatched) (xs ys : List Operand) →

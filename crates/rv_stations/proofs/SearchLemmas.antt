@@ -3,7 +3,7 @@ use Rattle.std.proofs.Common.{◌≡◌, ℕ, zero, suc, ◌+◌, Bool, true, fa
 use Rattle.std.proofs.Common.{◌++◌, take, drop, remove, slice_get, Option, None, Some, inl, inr, refl, ap, sym, ◌∙◌}
 use Rattle.std.proofs.Common.{arith}
 use Rattle.std.specs.Option.{option_map}
-use Rattle.std.proofs.lemmas.Bool.{and_parts, cases_Bool, cases_lt}
+use Rattle.std.proofs.lemmas.Bool.{cases_Bool}
 use Rattle.std.proofs.lemmas.List.{append_assoc}
 use Rattle.std.proofs.lemmas.Option.{get_or_from_slice_get, slice_get_within}
 use Rattle.rv_isa.specs.Numbered.{IsInOrder}
@@ -102,21 +102,12 @@ LoadsFail test ws at = (k : ℕ) (w : Waiting) → at ≤ k → slice_get ws k �
 pub is_passed_by : (test : Waiting → Bool) (ws : List Waiting) (at : ℕ) (loads_wait : Bool) (w : Waiting) →
     (loads_wait ≡ true → LoadsFail test ws at) → slice_get ws at ≡ Some w → is_asked loads_wait w ≡ false →
     (is_ready w && test w) ≡ false
-is_passed_by test ws at loads_wait w fail is unasked = elim (cases_Bool (is_ready w)) [
-  | inl ready ↦
-      let both : not (loads_wait && loads w) ≡ false = rw ready at unasked in
-      let parts = and_parts loads_wait (loads w) (not_false (loads_wait && loads w) both) in
-      rw (ready, fail parts.0 at w (omega arith) is parts.1) refl
-  | inr waits ↦ rw waits refl
-]
+is_passed_by test ws at loads_wait w fail is unasked = grind (arith, loads, not_false)
 
 -- what is asked is ready
 pub ready-asked : (loads_wait : Bool) (found : Option Waiting) → option_map (is_asked loads_wait) found ≡ Some true →
     option_map is_ready found ≡ Some true
-ready-asked loads_wait None shown = cc
-ready-asked loads_wait (Some w) shown =
-    let asked : is_asked loads_wait w ≡ true = cc shown in
-    ap Some (and_parts (is_ready w) (not (loads_wait && loads w)) asked).0
+ready-asked loads_wait waiting shown = grind (arith, loads)
 
 -- and so from a later one
 pub LoadsFail-later : (test : Waiting → Bool) (ws : List Waiting) (at : ℕ) → LoadsFail test ws at →
@@ -165,14 +156,7 @@ pub passed_unasked : (test : Waiting → Bool) (ws : List Waiting) (at to : ℕ)
     ((k : ℕ) → at ≤ k → k < to → option_map (is_asked loads_wait) (slice_get ws k) ≡ Some false) →
     (loads_wait ≡ true → LoadsFail test ws at) → ArePassedBy test at ws → ArePassedBy test to ws
 passed_unasked test ws at to loads_wait unasked fail passed =
-    passed_from test to ws (λ k w low is. elim (cases_lt k at) [
-      | inl before ↦ passed_at test at ws passed k w before is
-      | inr after ↦
-          let shown : Some (is_asked loads_wait w) ≡ Some false =
-          sym (ap (option_map (is_asked loads_wait)) is) ∙ unasked k after low in
-          let asked : is_asked loads_wait w ≡ false = cc shown in
-          is_passed_by test ws k loads_wait w (λ wait. LoadsFail-from test ws at k after (fail wait)) is asked
-    ])
+    grind (arith, passed_from, passed_at, is_passed_by, LoadsFail-from)
 
 -- one more is passed by
 pub passed_next : (test : Waiting → Bool) (ws : List Waiting) (at : ℕ) (w : Waiting) → slice_get ws at ≡ Some w →

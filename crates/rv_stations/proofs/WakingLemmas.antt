@@ -1,8 +1,8 @@
 -- Operands that are woken eight at a time: those whose bits are cleared are woken, and the others can still be.
-use Rattle.std.proofs.Common.{◌≡◌, sym, ℕ, ◌+◌, ◌<◌, ◌≤◌, ◌∙◌, true, List, length, get_or, map, arith, eqb, refl, ap}
-use Rattle.std.proofs.Common.{inl, inr}
+use Rattle.std.proofs.Common.{◌≡◌, sym, ℕ, ◌+◌, ◌<◌, ◌≤◌, ◌∙◌, true, List, length, get_or, map, arith, refl, ap, inl}
+use Rattle.std.proofs.Common.{inr}
 use Rattle.std.specs.Int.{bit_at}
-use Rattle.std.proofs.lemmas.Bool.{cases_Bool, cases_lt, true≢false}
+use Rattle.std.proofs.lemmas.Bool.{cases_lt, true≢false}
 use Rattle.std.proofs.lemmas.List.{get_or-map, ext_get_or, length-map}
 use Rattle.rv_stations.specs.declared.waiting.Operand.{Operand}
 use Rattle.rv_stations.specs.declared.waiting.Operand.TheVariants.{Value, Tag}
@@ -13,11 +13,7 @@ use Rattle.rv_stations.proofs.ColumnLemmas.{set_bit, in_eight-below, in_eight-ab
 -- what is woken twice is woken
 woken_operand-twice : (seq value : ℕ) (o : Operand) →
     woken_operand seq value (woken_operand seq value o) ≡ woken_operand seq value o
-woken_operand-twice seq value (Value held) = refl
-woken_operand-twice seq value (Tag tag) = elim (cases_Bool (eqb tag seq)) [
-  | inl same ↦ rw same refl
-  | inr other ↦ rw other (rw other refl)
-]
+woken_operand-twice seq value operand = grind arith
 
 has_value-unwoken : (seq value : ℕ) (o : Operand) → has_value o ≡ true → woken_operand seq value o ≡ o
 has_value-unwoken seq value (Value held) has = refl
@@ -33,13 +29,7 @@ pub record Waking (seq value left : ℕ) (old now : List Operand) : Type 0 where
 
 -- at the start no operand is woken
 pub Waking-start : (seq value left : ℕ) (os : List Operand) → IsWaitMask os left → Waking seq value left os os
-Waking-start seq value left os marked = record {
-  long = refl;
-  same = λ i lt. refl;
-  done = λ i lt none.
-      has_value-unwoken seq value (get_or os i (Value 0))
-      (set_bit (has_value (get_or os i (Value 0))) (sym (marked i lt) ∙ none));
-}
+Waking-start seq value left os marked = grind (arith, has_value-unwoken, set_bit)
 
 -- where every bit is cleared, all are woken
 pub Waking-end : (seq value left : ℕ) (old now : List Operand) → ((i : ℕ) → i < length old → bit_at left i ≡ 0) →

@@ -8,6 +8,4 @@ returns-then-size-text-clause-lines c =
     slice_split_none _ _ (λ k d below. fails_before_first (λ byte. byte == 10) c.args.text.now k d (omega arith))
 
 pub returns-clause-lines : goal.returns-clause-lines
-returns-clause-lines c =
-    rw (c.split_at.ensures.back, c.length_before-size.ensures.length)
-    (slice_split_first (λ byte. byte == 10) c.args.text.now 0 (omega arith))
+returns-clause-lines c = grind (arith, slice_split_first)

@@ -1,8 +1,7 @@
-use Rattle.std.proofs.Common.{◌∙◌, None, map, ap, sym, arith, ok_or}
+use Rattle.std.proofs.Common.{None, map, ap, sym, arith, ok_or}
 use Rattle.std.proofs.lemmas.List.{drop_more, drop_all}
 use Rattle.rv_asm.proofs.Joined.{joined, joined-nil, joined-end}
 use Rattle.rv_asm.proofs.Operands.{joined-found, joined-operand}
-use Rattle.rv_asm.specs.Operand.{operands_in}
 use Rattle.rv_asm.specs.Read.{operand_of, token_of}
 use Rattle.rv_asm.specs.declared.fault.AsmFault.TheVariants.{BadOperands}
 use Rattle.rv_asm.proofs.operand.read_pieces.Goals as goal
@@ -25,9 +24,4 @@ returns-in_default c = λ _.
     (sym (joined-found _ _ _ _ c.loop-piece.operands.items c.loop-piece.invariant left None c.in_default.ensures))
 
 pub returns : goal.returns
-returns c =
-    let none_left = ap (map (λ piece. map token_of piece.now))
-    (drop_all c.loop-piece.piece-index c.args.pieces.now (omega (arith, c.loop-piece-test.false))) in
-    ap (λ o. ok_or o BadOperands)
-    (sym c.loop-piece.invariant ∙ ap (λ l. joined operand_of c.loop-piece.operands.items (operands_in l)) none_left
-    ∙ joined-end operand_of _)
+returns c = grind (arith, drop_all, joined, joined-end)

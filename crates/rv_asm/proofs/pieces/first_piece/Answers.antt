@@ -14,6 +14,4 @@ pub returns-clause-first : goal.returns-clause-first
 returns-clause-first c = sym (before_comma c.args.tokens.now _ c.length_before_comma-size.ensures.length)
 
 pub returns-clause-pieces : goal.returns-clause-pieces
-returns-clause-pieces c =
-    rw c.split_at.ensures.back
-    (cut_at_comma c.args.tokens.now _ c.length_before_comma-size.ensures.length (omega arith))
+returns-clause-pieces c = grind (arith, cut_at_comma)

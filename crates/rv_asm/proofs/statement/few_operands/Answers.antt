@@ -3,9 +3,7 @@ use Rattle.rv_asm.proofs.Few.{read_fault, read_refused, too_many}
 use Rattle.rv_asm.proofs.statement.few_operands.Goals as goal
 
 pub returns-then-piece_count-gt3-clause-refused : goal.returns-then-piece_count-gt3-clause-refused
-returns-then-piece_count-gt3-clause-refused c =
-    λ not_memory form other. too_many c.args.tokens.now form
-    (omega (arith, c.piece_count.ensures, c.if-piece_count-gt3.true)) other
+returns-then-piece_count-gt3-clause-refused c = grind (arith, too_many)
 
 pub returns-clause-fault : goal.returns-clause-fault
 returns-clause-fault c = read_fault _ c.read_operands.result _ c.read_operands.ensures

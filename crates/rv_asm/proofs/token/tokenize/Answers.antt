@@ -1,9 +1,7 @@
-use Rattle.std.proofs.Common.{◌≡◌, ◌++◌, arith, sym, ◌∙◌, ap, length, drop}
-use Rattle.std.specs.Prelude.{ok_or}
+use Rattle.std.proofs.Common.{◌++◌, arith, sym, ◌∙◌, ap, drop}
 use Rattle.std.specs.Option.{option_map, option_to_list}
 use Rattle.std.proofs.lemmas.Bool.Decides.{nat_tests}
 use Rattle.rv_asm.specs.Token.{tokens_of}
-use Rattle.rv_asm.specs.declared.fault.AsmFault.TheVariants.{BadToken}
 use Rattle.rv_asm.specs.Read.{lexeme_of, token_of}
 use Rattle.rv_asm.proofs.Joined.{joined, joined-nil, joined-push, joined-end}
 use Rattle.rv_asm.proofs.TokenLines.{tokens_of-first, tokens_of-none, tokens_of-empty}
@@ -13,9 +11,7 @@ pub loop-rest-init : goal.loop-rest-init
 loop-rest-init c = rw c.new-tokens.ensures.items (joined-nil token_of _)
 
 pub returns-in_default : goal.returns-in_default
-returns-in_default c = λ _.
-    let none = tokens_of-none c.loop-rest.rest.now (grind (arith, nat_tests)) c.in_default.ensures.lexeme in
-    ap (λ o. ok_or o BadToken) (sym c.loop-rest.invariant ∙ ap (joined token_of c.loop-rest.tokens.items) none)
+returns-in_default c = grind (arith, tokens_of-none, joined)
 
 pub loop-rest-preserved-in_default-token : goal.loop-rest-preserved-in_default-token
 loop-rest-preserved-in_default-token c =
@@ -38,9 +34,4 @@ loop-rest-preserved c =
     ∙ ap (joined token_of c.loop-rest.tokens.items) (sym token_first) ∙ c.loop-rest.invariant)
 
 pub returns : goal.returns
-returns c =
-    let none : length c.loop-rest.rest.now ≡ 0 = grind (arith, nat_tests) in
-    ap (λ o. ok_or o BadToken)
-    (sym c.loop-rest.invariant
-    ∙ ap (joined token_of c.loop-rest.tokens.items) (tokens_of-empty c.loop-rest.rest.now none)
-    ∙ joined-end token_of _)
+returns c = grind (arith, joined, tokens_of-empty, joined-end)

@@ -10,10 +10,7 @@ use Rattle.rv_stations.proofs.ZipLemmas.{zip2-replicate}
 use Rattle.rv_stations.proofs.column.OperandColumn.new.Goals as goal
 
 pub returns : goal.returns
-returns c =
-    ap₂ (zip2 operand_of) (c.in_ok-vec.ensures.items_if_clones_equal (λ y e. e))
-    (c.in_ok-vec-2.ensures.items_if_clones_equal (λ y e. e))
-    ∙ zip2-replicate operand_of c.args.len 18446744073709551615 0
+returns c = grind (arith, zip2-replicate)
 
 pub invariant_of-result : goal.invariant_of-result
 invariant_of-result c = record {

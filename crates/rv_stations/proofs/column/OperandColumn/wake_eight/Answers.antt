@@ -12,9 +12,7 @@ use Rattle.rv_stations.proofs.GiveLemmas.{none_like}
 use Rattle.rv_stations.proofs.column.OperandColumn.wake_eight.Goals as goal
 
 pub like_from-like-requires : goal.like_from-like-requires
-like_from-like-requires c =
-    rw c.as_slice.ensures.value
-    (omega (arith, rw (← c.self.view_is) at c.requires.within, length-column c.self.inside c.self.invariant))
+like_from-like-requires c = grind (arith, length-column)
 
 pub returns-then-like-eq0 : goal.returns-then-like-eq0
 returns-then-like-eq0 c =
@@ -29,17 +27,10 @@ returns-then-like-eq0 c =
     (none_like c.args.seq (take 8 (drop c.args.start p.tags.items)) none)))
 
 pub wake_from-woken-requires-clause-within : goal.wake_from-woken-requires-clause-within
-wake_from-woken-requires-clause-within c =
-    rw c.as_mut_slice.ensures.value
-    (omega (arith, rw (← c.self.view_is) at c.requires.within, length-column c.self.inside c.self.invariant))
+wake_from-woken-requires-clause-within c = grind (arith, length-column)
 
 pub overflow_shl-self : goal.overflow_shl-self
-overflow_shl-self c = omega (
-  arith,
-  rw (← c.self.view_is) at c.requires.within,
-  length-column c.self.inside c.self.invariant,
-  c.self.invariant.few,
-)
+overflow_shl-self c = grind (arith, length-column)
 
 room : (c : goal.After-self-3-1) → c.args.start + 8 ≤ length c.self.inside.tags.items
 room c = omega (arith, rw (← c.self.view_is) at c.requires.within, length-column c.self.inside c.self.invariant)
@@ -69,9 +60,7 @@ values_are c =
 woken_are : (c : goal.After-self-3-1) →
     c.wake_from-woken.result
     ≡ mask_l (map (λ t. eqb t c.args.seq) (take 8 (drop c.args.start c.self.inside.tags.items)))
-woken_are c =
-    c.wake_from-woken.ensures.woken
-    ∙ ap (λ ts. mask_l (map (λ t. eqb t c.args.seq) (take 8 (drop c.args.start ts)))) c.as_mut_slice.ensures.value
+woken_are c = grind arith
 
 operands_are : (c : goal.After-self-3-1) →
     zip2 operand_of (with_items c.self.inside.tags c.wake_from-woken.new.tags).items

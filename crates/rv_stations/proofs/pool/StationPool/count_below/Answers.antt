@@ -28,8 +28,4 @@ returns-else-seq_at-from-clause-below c =
     i.1
 
 pub returns-after-loop-count-clause-below : goal.returns-after-loop-count-clause-below
-returns-after-loop-count-clause-below c =
-    let i = c.loop-count.invariant in
-    below-prefix seq_of c.args.from c.loop-count.count c.args.self.now.waiting i.0
-    (λ k d lt. absurd (omega (arith, c.loop-count-test.false)))
-    i.1
+returns-after-loop-count-clause-below c = grind (arith, below-prefix)

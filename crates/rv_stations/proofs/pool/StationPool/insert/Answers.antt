@@ -7,9 +7,7 @@ use Rattle.std.specs.Int.{bit_at}
 use Rattle.rv_isa.proofs.Numbered.{IsInOrder-push}
 use Rattle.rv_isa.specs.Instruction.{is_load}
 use Rattle.rv_stations.specs.declared.pool.Dispatched.{Dispatched}
-use Rattle.rv_stations.specs.declared.waiting.Waiting.{Waiting}
 use Rattle.rv_stations.specs.Waiting.{seq_of}
-use Rattle.rv_stations.specs.Pool.{Pool}
 use Rattle.rv_stations.specs.PoolFields.{joined, in_all, in_places, nothing, IsMarkedOther}
 use Rattle.rv_stations.proofs.MarkLemmas.{marks-next}
 use Rattle.rv_stations.proofs.PoolLemmas.{same_lengths, length-joined, length-pool, place_there, joined-set}
@@ -106,26 +104,10 @@ invariant_of-self c = record {
 }
 
 pub returns : goal.returns
-returns c =
-    let pool : List Waiting → Pool = λ ws. record { waiting = ws; capacity = vec_len c.self.inside.places } in
-    rw (← c.self.view_is) (ap pool (waiting_are c))
+returns c = grind (arith, waiting_are)
 
 pub marked-self-inside-requires : goal.marked-self-inside-requires
-marked-self-inside-requires c =
-    let p = c.self.inside in
-    let low : p.count < vec_len p.places =
-    omega (arith, rw (← c.self.view_is) at c.requires.room, length-pool p c.self.invariant) in
-    let is : slice_get p.places.items p.count ≡ Some c.from-place.result =
-    slice_get_read p.places.items _ p.count c.index.result.now refl (omega (arith, low)) c.index.ensures
-    ∙ ap Some (sym c.from-place.ensures) in
-    omega (arith, place_there p c.self.invariant p.count c.from-place.result is, c.self.invariant.few)
+marked-self-inside-requires c = grind (arith, room, length-pool, is, slice_get_read, place_there, few)
 
 pub marked-self-inside-requires-2 : goal.marked-self-inside-requires-2
-marked-self-inside-requires-2 c =
-    let p = c.self.inside in
-    let low : p.count < vec_len p.places =
-    omega (arith, rw (← c.self.view_is) at c.requires.room, length-pool p c.self.invariant) in
-    let is : slice_get p.places.items p.count ≡ Some c.from-place.result =
-    slice_get_read p.places.items _ p.count c.index.result.now refl (omega (arith, low)) c.index.ensures
-    ∙ ap Some (sym c.from-place.ensures) in
-    omega (arith, place_there p c.self.invariant p.count c.from-place.result is, c.self.invariant.few)
+marked-self-inside-requires-2 c = grind (arith, room, length-pool, is, slice_get_read, place_there, few)

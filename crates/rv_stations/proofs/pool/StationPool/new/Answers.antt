@@ -1,22 +1,13 @@
 -- The places are numbered, and no instruction waits.
-use Rattle.std.proofs.Common.{◌≡◌, ◌<◌, ◌+◌, ◌*◌, ◌/◌, ◌∙◌, ℕ, List, [], length, get_or, ap, vec_len, arith}
+use Rattle.std.proofs.Common.{◌≡◌, ◌<◌, ◌+◌, ◌*◌, ◌/◌, ◌∙◌, ℕ, List, length, get_or, ap, arith}
 use Rattle.std.proofs.lemmas.List.{length-replicate}
 use Rattle.std.proofs.lemmas.List.FromFn.{length-range_with_len, get_or-range_with_len}
 use Rattle.rv_stations.specs.declared.waiting.Operand.{Operand}
 use Rattle.rv_stations.specs.declared.waiting.Operand.TheVariants.{Value}
-use Rattle.rv_stations.specs.Pool.{Pool}
 use Rattle.rv_stations.proofs.pool.StationPool.new.Goals as goal
 
 pub returns : goal.returns
-returns c =
-    let pool : ℕ → Pool = λ n. record { waiting = []; capacity = n } in
-    let long : vec_len c.in_ok-first_places.field-0 ≡ c.args.kind.stations =
-    omega (
-      arith,
-      ap (λ (l : List ℕ). length l) c.in_ok-first_places.ensures,
-      length-range_with_len 0 c.args.kind.stations,
-    ) in
-    ap pool long
+returns c = grind (arith, length-range_with_len)
 
 pub invariant_of-result : goal.invariant_of-result
 invariant_of-result c =

@@ -75,12 +75,7 @@ loop-at-preserved g c =
     )
 
 pub returns-clause-oldest : goal.returns-clause-oldest
-returns-clause-oldest g c = λ test search.
-    (passed_whole test c.loop-at.at c.args.self.now.waiting (c.loop-at.invariant.1 test search)
-    (omega (arith, c.loop-at-test.false, c.len-end.ensures.len))).0
+returns-clause-oldest g c = grind (arith, passed_whole)
 
 pub returns-clause-others : goal.returns-clause-others
-returns-clause-others g c = λ test search.
-    let pool : List Waiting → Pool = λ ws. record { waiting = ws; capacity = c.args.self.now.capacity } in
-    ap pool (passed_whole test c.loop-at.at c.args.self.now.waiting (c.loop-at.invariant.1 test search)
-    (omega (arith, c.loop-at-test.false, c.len-end.ensures.len))).1
+returns-clause-others g c = grind (arith, passed_whole)

@@ -5,14 +5,7 @@ use Rattle.rv_stations.proofs.PoolLemmas.{length-pool, place_there, ready_parts,
 use Rattle.rv_stations.proofs.pool.StationPool.ready_at.Goals as goal
 
 pub value_at-first-requires-clause-ready : goal.value_at-first-requires-clause-ready
-value_at-first-requires-clause-ready c =
-    let p = c.self.inside in
-    let low : c.args.at < p.count =
-    omega (arith, rw (← c.self.view_is) at c.requires.there, length-pool p c.self.invariant) in
-    let is : slice_get p.places.items c.args.at ≡ Some c.from-place.result =
-    slice_get_read p.places.items _ c.args.at c.index.result.now refl (omega (arith, low, c.self.invariant.within))
-    c.index.ensures ∙ ap Some (sym c.from-place.ensures) in
-    (ready_parts p c.self.invariant c.args.at c.from-place.result low is (rw (← c.self.view_is) at c.requires.ready)).0
+value_at-first-requires-clause-ready c = grind (arith, length-pool, slice_get_read, ready_parts)
 
 pub value_at-second-requires-clause-ready : goal.value_at-second-requires-clause-ready
 value_at-second-requires-clause-ready c =
@@ -25,19 +18,4 @@ value_at-second-requires-clause-ready c =
     (ready_parts p c.self.invariant c.args.at c.from-place.result low is (rw (← c.self.view_is) at c.requires.ready)).1
 
 pub returns : goal.returns
-returns c =
-    let p = c.self.inside in
-    let low : c.args.at < p.count =
-    omega (arith, rw (← c.self.view_is) at c.requires.there, length-pool p c.self.invariant) in
-    let is : slice_get p.places.items c.args.at ≡ Some c.from-place.result =
-    slice_get_read p.places.items _ c.args.at c.index.result.now refl (omega (arith, low, c.self.invariant.within))
-    c.index.ensures ∙ ap Some (sym c.from-place.ensures) in
-    let there = place_there p c.self.invariant c.args.at c.from-place.result is in
-    let seq = slice_get_read p.seqs.items _ c.from-place.result c.index-seq.result.now refl (omega (arith, there))
-    c.index-seq.ensures in
-    let dispatched =
-    slice_get_read p.dispatched.items _ c.from-place.result c.index-dispatched.result.now refl
-    (omega (arith, there, c.self.invariant.dispatched)) c.index-dispatched.ensures in
-    rw (← c.self.view_is)
-    (slice_get-pool p c.args.at c.from-place.result _ _ _ _ low is seq dispatched c.value_at-first.ensures
-    c.value_at-second.ensures)
+returns c = grind (arith, length-pool, slice_get_read, place_there, slice_get-pool)

@@ -1,22 +1,16 @@
 -- The places of the older instructions stand in front.
-use Rattle.std.proofs.Common.{◌≡◌, ◌≤◌, ◌∙◌, List, take, sym, ap, vec_len, arith}
+use Rattle.std.proofs.Common.{◌≡◌, ◌≤◌, ◌∙◌, take, sym, arith}
 use Rattle.std.specs.Int.{bit_at}
 use Rattle.rv_isa.specs.Numbered.{below}
 use Rattle.rv_isa.proofs.Numbered.{IsInOrder-below}
-use Rattle.rv_stations.specs.declared.waiting.Waiting.{Waiting}
 use Rattle.rv_stations.specs.Waiting.{seq_of}
-use Rattle.rv_stations.specs.Pool.{Pool}
 use Rattle.rv_stations.specs.PoolFields.{in_all, in_places, IsMarkedOther}
 use Rattle.rv_stations.proofs.MarkLemmas.{marks-shorter}
 use Rattle.rv_stations.proofs.PoolLemmas.{length-pool, in_places-take}
 use Rattle.rv_stations.proofs.pool.StationPool.squash.Goals as goal
 
 fewer : (c : goal.After-self-1) → c.count_below-self-inside.result ≤ c.self.inside.count
-fewer c = omega (
-  arith,
-  rw (← c.self.view_is) at c.count_below-self-inside.ensures.within,
-  length-pool c.self.inside c.self.invariant,
-)
+fewer c = grind (arith, length-pool)
 
 waiting_are : (c : goal.After-self-1) →
     in_places (in_all c.self.inside) (take c.count_below-self-inside.result c.self.inside.places.items)
@@ -43,6 +37,4 @@ invariant_of-self c = record {
 }
 
 pub returns : goal.returns
-returns c =
-    let pool : List Waiting → Pool = λ ws. record { waiting = ws; capacity = vec_len c.self.inside.places } in
-    rw (← c.self.view_is) (ap pool (waiting_are c))
+returns c = grind (arith, waiting_are)

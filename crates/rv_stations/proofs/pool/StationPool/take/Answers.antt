@@ -1,6 +1,6 @@
 -- The place moves after those whose instructions wait.
-use Rattle.std.proofs.Common.{◌≡◌, ◌<◌, ◌-◌, ◌∙◌, ℕ, suc, List, All, Some, refl, get_or, slice_get, length, take}
-use Rattle.std.proofs.Common.{remove, sym, ap, ap₂, vec_len, arith, length-take-le}
+use Rattle.std.proofs.Common.{◌≡◌, ◌<◌, ◌-◌, ◌∙◌, ℕ, suc, All, Some, refl, get_or, slice_get, length, take, remove, sym}
+use Rattle.std.proofs.Common.{ap, vec_len, arith, length-take-le}
 use Rattle.std.specs.Int.{bit_at}
 use Rattle.std.proofs.lemmas.List.{get_or-take}
 use Rattle.std.proofs.lemmas.List.Elements.{All-take}
@@ -8,9 +8,7 @@ use Rattle.std.proofs.lemmas.Option.{get_or_from_slice_get, slice_get_read}
 use Rattle.std.proofs.lemmas.List.Edits.{length-remove}
 use Rattle.std.proofs.lemmas.List.Quantifiers.{all_pairs_remove}
 use Rattle.rv_isa.proofs.Numbered.{IsInOrder-remove}
-use Rattle.rv_stations.specs.declared.waiting.Waiting.{Waiting}
 use Rattle.rv_stations.specs.Waiting.{seq_of}
-use Rattle.rv_stations.specs.Pool.{Pool}
 use Rattle.rv_stations.specs.PoolFields.{in_all, in_places, IsMarkedOther}
 use Rattle.rv_stations.proofs.MarkLemmas.{AreApart-take, marks-removed}
 use Rattle.rv_stations.proofs.PlaceLemmas.{All-insert, All-remove, All-others, AllPairs-insert, take-insert}
@@ -68,10 +66,7 @@ module _ (c : goal.After-self-2-1) (P Q : ℕ → Type 0) (step : (k : ℕ) → 
 waiting_are : (c : goal.After-self-2-1) →
     in_places (in_all c.self.inside) (take (c.self.inside.count - 1) c.move_back.new.places.items)
     ≡ remove (in_places (in_all c.self.inside) (take c.self.inside.count c.self.inside.places.items)) c.args.at
-waiting_are c =
-    let p = c.self.inside in
-    ap (in_places (in_all p)) (left c)
-    ∙ in_places-remove (in_all p) (take p.count p.places.items) c.args.at (in_front c)
+waiting_are c = grind (arith, left, in_places-remove, in_front)
 
 flip : (a b : ℕ) → (a ≡ b → ⊥) → (b ≡ a → ⊥)
 flip a b apart same = apart (sym same)
@@ -107,16 +102,7 @@ invariant_of-self c =
     }
 
 pub returns-clause-others : goal.returns-clause-others
-returns-clause-others c =
-    let pool : List Waiting → ℕ → Pool = λ ws n. record { waiting = ws; capacity = n } in
-    rw (← c.self.view_is) (ap₂ pool (waiting_are c) c.move_back.ensures.len)
+returns-clause-others c = grind (arith, waiting_are)
 
 pub marked-self-inside-requires : goal.marked-self-inside-requires
-marked-self-inside-requires c =
-    let p = c.self.inside in
-    let low : c.args.at < p.count =
-    omega (arith, rw (← c.self.view_is) at c.requires, length-pool p c.self.invariant) in
-    let is : slice_get p.places.items c.args.at ≡ Some c.from-place.result =
-    slice_get_read p.places.items _ c.args.at c.index.result.now refl (omega (arith, low, c.self.invariant.within))
-    c.index.ensures ∙ ap Some (sym c.from-place.ensures) in
-    omega (arith, place_there p c.self.invariant c.args.at c.from-place.result is, c.self.invariant.few)
+marked-self-inside-requires c = grind (arith, low, length-pool, slice_get_read, within, place_there)

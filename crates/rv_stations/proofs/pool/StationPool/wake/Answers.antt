@@ -1,11 +1,9 @@
 -- Both columns are woken.
-use Rattle.std.proofs.Common.{◌≡◌, ◌<◌, ◌∙◌, All, List, map, take, length, refl, ap, vec_len, arith}
+use Rattle.std.proofs.Common.{◌≡◌, ◌<◌, ◌∙◌, All, map, take, length, refl, ap, vec_len, arith}
 use Rattle.std.proofs.lemmas.List.{length-map}
 use Rattle.std.proofs.lemmas.List.Elements.{All-take}
-use Rattle.rv_stations.specs.declared.waiting.Waiting.{Waiting}
 use Rattle.rv_isa.proofs.Numbered.{IsInOrder-map}
 use Rattle.rv_stations.specs.Waiting.{seq_of, woken, woken_operand}
-use Rattle.rv_stations.specs.Pool.{Pool}
 use Rattle.rv_stations.specs.PoolFields.{joined, in_all, in_places}
 use Rattle.rv_stations.proofs.PoolLemmas.{same_lengths, length-joined, joined-woken, in_places-map}
 use Rattle.rv_stations.proofs.pool.StationPool.wake.Goals as goal
@@ -51,6 +49,4 @@ invariant_of-self c = record {
 }
 
 pub returns : goal.returns
-returns c =
-    let pool : List Waiting → Pool = λ ws. record { waiting = ws; capacity = vec_len c.self.inside.places } in
-    rw (← c.self.view_is) (ap pool (waiting_are c))
+returns c = grind (arith, waiting_are)
