@@ -23,7 +23,7 @@ taken_next : (found : Option Operand) (others : Option (List Operand)) →
     option_map_or (list_all (takes place.Value))
     (option_and_then (λ first. option_map (λ rest. first ∷ rest) others) found) false
     ≡ (option_map_or (takes place.Value) found false && option_map_or (list_all (takes place.Value)) others false)
-taken_next given others = grind (arith, and_false, takes)
+taken_next found others = grind (arith, and_false, takes)
 
 -- each piece is an expression where all are read and each is one
 taken : (pieces : List (List spec.Token)) → option_map_or (list_all (takes place.Value)) (operands_in pieces) false

@@ -32,7 +32,7 @@ appends_nothing a = record { bytes = []; spells = nothing; appended = sym (appen
 
 added : {T : Type 0} (section : Section) (r : Result T AsmFault) (meaning : Result (List Cell) AsmFault)
     (a b : List ℕ) → IfOk r (λ _. Emits meaning a b) → OnOk r (Appends (parts_in section section meaning) a b)
-added given given1 meaning a b put = grind arith
+added section r meaning a b put = grind arith
 
 -- a line adds what it means to the section that it stands in
 pub added_here : {T : Type 0} (section own : Section) (r : Result T AsmFault) (meaning : Result (List Cell) AsmFault)
@@ -81,7 +81,7 @@ rest_is xs i x is within = drop_more xs i x within ∙ ap (λ y. y ∷ drop (i +
 pub emits_more : {first : Result (List Cell) AsmFault} (rest : Result (List Cell) AsmFault) {a b : List ℕ} (c : List ℕ)
     (result : Result Unit AsmFault) → Emits first a b → EmitsOrRefuses rest b c result →
     EmitsOrRefuses (and_then first (λ parts. and_then rest (λ others. Ok (parts ++ others)))) a c result
-emits_more rest c given put more = grind (arith, appends_more)
+emits_more rest c result put more = grind (arith, appends_more)
 
 -- whatever the rest of the parts spells, after these bytes it spells all of them
 abbrev pub Begins : List Cell → List Cell → List ℕ → Type 0

@@ -69,7 +69,7 @@ statement_past _ a b c d rest other = refl
 
 counted_next : (found : Option Operand) (others : Option (List Operand)) (n : ℕ) → option_map_or length others n ≡ n →
     option_map_or length (option_and_then (λ first. option_map (λ rest. first ∷ rest) others) found) (suc n) ≡ suc n
-counted_next given others n is = grind arith
+counted_next found others n is = grind arith
 
 -- as many operands are read as there are pieces
 counted : (pieces : List (List spec.Token)) → option_map_or length (operands_in pieces) (length pieces) ≡ length pieces
@@ -109,13 +109,13 @@ pub read_refused : {V : Type 0} (meaning : V → List Operand) (r : Result V Asm
     Follows meaning r (ok_or found BadOperands) →
     IfErr r (λ fault. fault ≢ Memory → (form : Form) → is_data form ≡ false →
     and_then (ok_or found BadOperands) (statement form) ≡ Err BadOperands)
-read_refused meaning given found follows = grind (arith, statement, fault_read)
+read_refused meaning r found follows = grind (arith, statement, fault_read)
 
 module _ (meanings : Meanings) (reach : Reach) where
   -- what has no statement moves nothing
   pub moved_refused : (form : Form) (read : Result (List Operand) AsmFault) →
       and_then read (statement form) ≡ Err BadOperands → and_then read (moved meanings reach form) ≡ Err BadOperands
-  moved_refused form given is = grind (arith, either)
+  moved_refused form read is = grind (arith, either)
 
   -- data need no symbol
   pub moved_data : (width : Width) (read : Result (List Operand) AsmFault) →

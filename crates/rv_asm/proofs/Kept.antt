@@ -27,7 +27,7 @@ idle_says_nothing line idle = record { nothing = nothing_said line.statement (gr
 
 module _ (base : ℕ) (whole : Layout) where
   nothing_in : (part section : Section) → parts_in part section (Ok []) ≡ []
-  nothing_in given given1 = grind arith
+  nothing_in part section = grind arith
 
   -- some lines have the same parts and the same fault as others
   record Same (lines all : List Kept) : Type 0 where

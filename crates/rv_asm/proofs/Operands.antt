@@ -42,7 +42,7 @@ slice_split-map (x ∷ xs) = cut_at (separates x) x _ _ (slice_split-map xs)
 pub pieces_are : {E : Type 0} (r : Result (Vec (Bor (List Token))) E) (tokens : List Token) →
     IfOk r (λ v. map (λ x. x.now) v.items ≡ slice_split separates tokens) →
     IfOk r (λ v. map (λ x. map token_of x.now) v.items ≡ slice_split is_comma (map token_of tokens))
-pieces_are given tokens e = grind (arith, map-map, slice_split-map)
+pieces_are r tokens e = grind (arith, map-map, slice_split-map)
 
 -- the operands of tokens, where there are some, are those of their pieces
 pub operands_of-pieces : (tokens : List Token) → 0 < length tokens →
@@ -67,7 +67,7 @@ module _ (all : Option (List Operand)) (piece : List spec.Token) (rest others : 
 
 -- four tokens or more are no expression
 expression-long : (t u v w : spec.Token) (rest : List spec.Token) → expression (t ∷ u ∷ v ∷ w ∷ rest) ≡ None
-expression-long given given1 given2 w rest = grind arith
+expression-long t u v w rest = grind arith
 
 based-none : (offset : Option Expression) → based offset None ≡ None
 based-none None = refl
