@@ -5,7 +5,8 @@ use Rattle.rv_asm.specs.Token.{Token}
 use Rattle.rv_asm.specs.Token as token
 use Rattle.rv_asm.specs.declared.fault.AsmFault.TheVariants as fault
 use Rattle.rv_refusal.specs.Culprit.{operand_of_fault}
-use Rattle.rv_refusal.specs.Names.{registers}
+use Rattle.rv_refusal.specs.ForeignName.{csr_hint}
+use Rattle.rv_refusal.specs.Names.{registers, takes_csr}
 use Rattle.rv_refusal.specs.NameOn.{begins_with}
 use Rattle.rv_refusal.specs.NameSet.{is_one_of}
 use Rattle.rv_refusal.specs.OperandShape.{begins_with_address, begins_with_number, lacks_closing, lacks_comma}
@@ -107,7 +108,8 @@ named_hint name other =
     if accesses_memory name then address_hint other
     else (if bytes_eq name (codes "jalr") then jump_hint other
     else (if bytes_eq name (codes "li") then load_hint other
-    else []))
+    else (if takes_csr name then csr_hint other
+    else [])))
 
 -- statements without operands
 unfoldable pub bare_statements : List (List ℕ)

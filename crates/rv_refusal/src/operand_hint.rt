@@ -8,6 +8,7 @@ ghost use Rattle.rv_refusal.specs.OperandHint.{operand_hint, operands_hint, prod
 ghost use Rattle.rv_refusal.specs.OperandHint.{reversed_hint, takes_offset, target_hint, with_number, written_hint};
 
 use crate::culprit::operand_of_fault;
+use crate::foreign_name::csr_hint;
 use crate::key_line::is_among;
 use crate::name_on::begins_with;
 use crate::name_set::NameSet;
@@ -18,6 +19,7 @@ use crate::operand_shape::{
 };
 use crate::statement::first_name;
 use crate::text::{add_all, add_text};
+use crate::unknown::takes_csr;
 use rv_asm::{AsmFault, Token};
 use std::alloc::AllocError;
 
@@ -223,6 +225,9 @@ fn named_hint(name: &[u8], other: &[u8]) -> &'static [u8]
     }
     if name == b"li".as_slice() {
         return load_hint(other);
+    }
+    if takes_csr(name) {
+        return csr_hint(other);
     }
     b""
 }
