@@ -3,8 +3,9 @@ use Rattle.std.specs.Prelude.{ℕ, ◌==◌, ◌&&◌, ◌||◌, Bool, false, no
 use Rattle.std.specs.Prelude.{length, nat_lt}
 use Rattle.std.specs.{Char.is_ascii_digit, List.list_any, List.slice_get, Option.option_map_or}
 use Rattle.rv_refusal.specs.Caret.{token_place}
+use Rattle.rv_refusal.specs.ForeignName.{stack_hint}
 use Rattle.rv_refusal.specs.KeyNames.{is_described}
-use Rattle.rv_refusal.specs.NameOn.{begins_with, goes_on_with, key_on, value_on}
+use Rattle.rv_refusal.specs.NameOn.{begins_with, goes_on_with, key_on, name_after, value_on}
 use Rattle.rv_refusal.specs.Names.{registers}
 use Rattle.rv_refusal.specs.NameSet.{is_one_of}
 
@@ -40,6 +41,18 @@ equals_hint line =
     then codes "hint: .equ gives a name its number, as in .equ size, 64\n"
     else value_hint line)
 
+-- a line begins with an instruction of other machines that moves registers in braces to the stack, or from it
+abbrev pub moves_to_stack : List ℕ → Bool
+moves_to_stack line =
+    option_map_or (λ on. is_one_of (codes "push" ∷ codes "pop" ∷ codes "PUSH" ∷ codes "POP" ∷ []) on.name)
+    (name_after 0 123 line) false
+
+-- what to write in place of a bracket on a line
+unfoldable pub bracket_hint : List ℕ → List ℕ
+bracket_hint line =
+    if moves_to_stack line then stack_hint
+    else codes "hint: an address is written as offset(register), as in 8(sp)\n"
+
 -- what to write in place of an operator, a bracket, a quote or a sign of other assemblers on a line
 unfoldable pub mark_hint : List ℕ → ℕ → List ℕ
 mark_hint line byte =
@@ -51,7 +64,7 @@ mark_hint line byte =
     else (if is_mark (codes "*<>&|^~!") byte then codes
     "hint: a symbol and a number may be added or subtracted, as in table+4\n"
     else (if byte == 61 then equals_hint line
-    else (if is_bracket line byte then codes "hint: an address is written as offset(register), as in 8(sp)\n"
+    else (if is_bracket line byte then bracket_hint line
     else (if byte == 64 then codes "hint: a line of .type may be left out, and a comment begins with #\n"
     else [])))))))
 

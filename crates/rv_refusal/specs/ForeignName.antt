@@ -42,6 +42,31 @@ extensions =
     codes "min" ∷ codes "minu" ∷ codes "max" ∷ codes "maxu" ∷ codes "abs" ∷ codes "rol" ∷ codes "ror" ∷ codes "clz"
     ∷ codes "ctz" ∷ codes "cpop" ∷ codes "lr.w" ∷ codes "sc.w" ∷ []
 
+-- CSRs of other machines that count cycles, instructions or time
+unfoldable pub counters : List (List ℕ)
+counters =
+    codes "cycle" ∷ codes "cycleh" ∷ codes "time" ∷ codes "timeh" ∷ codes "instret" ∷ codes "instreth"
+    ∷ codes "mcycle" ∷ codes "mcycleh" ∷ codes "minstret" ∷ codes "minstreth" ∷ codes "mtime" ∷ codes "mtimeh" ∷ []
+
+-- instructions that read them
+unfoldable pub counter_reads : List (List ℕ)
+counter_reads =
+    codes "rdcycle" ∷ codes "rdcycleh" ∷ codes "rdtime" ∷ codes "rdtimeh" ∷ codes "rdinstret" ∷ codes "rdinstreth" ∷ []
+
+-- how a register is moved to the stack, and from it
+unfoldable pub stack_hint : List ℕ
+stack_hint =
+    codes "hint: addi sp, sp, -4 and sw ra, 0(sp) push ra; lw ra, 0(sp) and addi sp, sp, 4 pop it\n"
+
+-- that nothing counts
+unfoldable pub counter_hint : List ℕ
+counter_hint =
+    codes "hint: the machine has no counters: the lines cycles and retired of the report say what a run took\n"
+
+-- what to write in place of a CSR of other machines that none here stands for
+unfoldable pub csr_hint : List ℕ → List ℕ
+csr_hint name = if is_one_of counters name then counter_hint else []
+
 -- what to write in place of a statement with a directive of other assemblers
 unfoldable pub directive_hint : List ℕ → List ℕ
 directive_hint name =
@@ -56,14 +81,14 @@ directive_hint name =
 -- what to write in place of a statement with a mnemonic of other assemblers or machines
 unfoldable pub mnemonic_hint : List ℕ → List ℕ
 mnemonic_hint name =
-    if is_one_of stack_names name then codes
-    "hint: addi sp, sp, -4 and sw ra, 0(sp) push ra; lw ra, 0(sp) and addi sp, sp, 4 pop it\n"
+    if is_one_of stack_names name then stack_hint
     else (if is_one_of comparisons name then codes
     "hint: a branch compares two registers itself, as in beq a0, a1, loop\n"
     else (if is_one_of extensions name then codes
     "hint: the machine has the base instructions, M, Zicsr, Zifencei, and three of Zba\n"
+    else (if is_one_of counter_reads name then counter_hint
     else (if bytes_eq name (codes "section") then codes "hint: a line .text or .data begins a section\n"
-    else [])))
+    else []))))
 
 -- what to write in place of a statement with a name of other assemblers or machines that no one name here stands for
 unfoldable pub foreign_hint : List ℕ → List ℕ

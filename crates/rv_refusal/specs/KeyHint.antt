@@ -82,12 +82,26 @@ names_size name = is_one_of (codes "cache.size" ∷ codes "cache_size" ∷ []) n
 unfoldable pub size_line : List ℕ
 size_line = codes "hint: the cache has cache.sets times cache.ways times cache.line bytes\n"
 
--- the lines on an unknown name that is none of arrivals: the size of the cache, or one that is known where no table
--- stands above it, or another
+-- a name is meant as RAM, or as its first address or its size
+unfoldable pub names_ram : List ℕ → Bool
+names_ram name =
+    is_one_of (codes "ram" ∷ codes "memory" ∷ codes "ram.size" ∷ codes "ram.base" ∷ codes "memory.size"
+    ∷ codes "memory.base" ∷ codes "mem.size" ∷ codes "memory_size" ∷ codes "mem_size" ∷ []) name
+
+-- which keys RAM has
+unfoldable pub ram_line : List ℕ
+ram_line = codes "hint: ram_base says where RAM begins, and ram_size its bytes, both above the first [table]\n"
+
+-- the line on a name that is meant as the size of the cache or as RAM
+unfoldable pub meant_line : List ℕ → List ℕ
+meant_line name = if names_size name then size_line else (if names_ram name then ram_line else [])
+
+-- the lines on an unknown name that is none of arrivals: one that is meant as something else, or that is known where no
+-- table stands above it, or another
 unfoldable pub name_hint : List (List ℕ) → KeyLine → List (List ℕ) → List ℕ
 name_hint known found keys =
-    if names_size found.name then size_line
-    else (if list_any (bytes_eq found.key) known then outside_line found.name
+    or_else (meant_line found.name)
+    (if list_any (bytes_eq found.key) known then outside_line found.name
     else table_hint known found keys)
 
 -- the lines on an unknown name: of arrivals, or another

@@ -22,6 +22,7 @@ pub mod NameSet
 pub mod Names
 pub mod Near
 pub mod OperandHint
+pub mod OperandShape
 pub mod Operands
 pub mod OrElse
 pub mod Place

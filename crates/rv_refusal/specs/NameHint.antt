@@ -17,24 +17,27 @@ reads_as_label (token.Name name ∷ []) = true
 reads_as_label (token.Name name ∷ token.Name next ∷ rest) = is_some (form_named next)
 reads_as_label _ = false
 
--- a name is known otherwise: from other assemblers, or in small letters
+-- a name in small letters is known otherwise: from other assemblers, or here
 abbrev pub is_known_otherwise : List ℕ → Bool
-is_known_otherwise name = is_some (counterpart name) || is_some (form_named (in_small_letters name))
+is_known_otherwise small = is_some (counterpart small) || is_some (form_named small)
 
--- what to write in place of a statement with an unknown mnemonic
-unfoldable pub label_hint : List ℕ → List Token → List ℕ
-label_hint name body =
-    if is_known_otherwise name then []
+-- what to write in place of a statement with an unknown mnemonic, which is so in small letters
+unfoldable pub label_hint : List ℕ → List ℕ → List Token → List ℕ
+label_hint small name body =
+    if is_known_otherwise small then []
     else (if reads_as_label body then codes "hint: a label has a colon after it, as in " ++ (name ++ codes ":\n")
     else [])
 
--- what to write in place of a statement with a name that no other assembler has, either: a directive has no hint
-abbrev pub unknown_hint : List Token → List ℕ → List ℕ
-unknown_hint body name = if begins_with 46 name then [] else label_hint name body
+-- what to write in place of a statement with a name that no other assembler has, either, which is so in small letters:
+-- a directive has no hint
+abbrev pub unknown_hint : List ℕ → List Token → List ℕ → List ℕ
+unknown_hint small body name = if begins_with 46 name then [] else label_hint small name body
 
--- what to write in place of a statement with an unknown name
+-- what to write in place of a statement with an unknown name: those of other assemblers and machines may have capital
+-- letters
 abbrev pub name_hint : List Token → List ℕ → List ℕ
-name_hint body name = or_else (foreign_hint name) (unknown_hint body name)
+name_hint body name =
+    or_else (foreign_hint (in_small_letters name)) (unknown_hint (in_small_letters name) body name)
 
 -- what to write in place of a statement whose name is unknown or that has none
 unfoldable pub statement_hint : List Token → List ℕ

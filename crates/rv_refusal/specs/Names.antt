@@ -65,9 +65,13 @@ has_csr (Instruction (Csr op) first second third) = true
 has_csr (Instruction (CsrImmediate op) first second third) = true
 has_csr _ = false
 
+-- an instruction has a CSR among its operands
+abbrev pub takes_csr : List ℕ → Bool
+takes_csr name = option_map_or has_csr (form_named name) false
+
 -- a statement has a CSR among its operands
 abbrev pub names_csr : List Token → Bool
-names_csr body = option_map_or has_csr (option_and_then form_named (first_name body)) false
+names_csr body = option_map_or takes_csr (first_name body) false
 
 -- the name at fault in a statement: its own, or an operand's; of operands of the wrong shape that of a CSR alone may be unknown
 unfoldable pub unknown_name : AsmFault → (List ℕ → Bool) → List Token → Option (List ℕ)

@@ -5,10 +5,10 @@ use Rattle.std.specs.Char.{to_ascii_lowercase}
 use Rattle.rv_asm.specs.Layout.{body_of}
 use Rattle.rv_asm.specs.Token.{Token}
 use Rattle.rv_asm.specs.declared.fault.AsmFault.{AsmFault}
-use Rattle.rv_asm.specs.declared.fault.AsmFault.TheVariants.{UnknownMnemonic, UnknownSymbol}
+use Rattle.rv_asm.specs.declared.fault.AsmFault.TheVariants.{BadOperands, UnknownMnemonic, UnknownSymbol}
 use Rattle.rv_describe.specs.Near.{is_near}
 use Rattle.rv_refusal.specs.Counterpart.{counterpart}
-use Rattle.rv_refusal.specs.ForeignName.{foreign_hint}
+use Rattle.rv_refusal.specs.ForeignName.{csr_hint, foreign_hint}
 use Rattle.rv_refusal.specs.Names.{known_names, unknown_name}
 use Rattle.rv_refusal.specs.NameSet.{is_one_of}
 use Rattle.rv_refusal.specs.OrElse.{or_else}
@@ -43,21 +43,31 @@ spelling_line name known =
 abbrev pub aligns_to_power : List ℕ → Bool
 aligns_to_power name = bytes_eq name (codes ".align") || bytes_eq name (codes ".p2align")
 
--- the line on an unknown mnemonic that no other stands for: nothing of one that has a hint
-unfoldable pub unfamiliar_line : List ℕ → List (List ℕ) → List ℕ
-unfamiliar_line name known = if length (foreign_hint name) == 0 then spelling_line name known else []
+-- the line on an unknown mnemonic that no other stands for, which is so in small letters: nothing of one that has a
+-- hint
+unfoldable pub unfamiliar_line : List ℕ → List ℕ → List (List ℕ) → List ℕ
+unfamiliar_line small name known = if length (foreign_hint small) == 0 then spelling_line name known else []
 
--- the line on an unknown mnemonic
+-- the line on an unknown mnemonic, which is so in small letters
+unfoldable pub small_line : List ℕ → List ℕ → List (List ℕ) → List ℕ
+small_line small name known =
+    if aligns_to_power small then codes "nearest: .balign, in bytes: .balign 4 for .align 2, .balign 8 for .align 3\n"
+    else if bytes_eq small (codes ".section") then names_line (codes ".text" ∷ codes ".data" ∷ [])
+    else option_map_or (λ other. names_line (other ∷ [])) (counterpart small) (unfamiliar_line small name known)
+
+-- the line on an unknown mnemonic: those of other assemblers and machines may have capital letters
 unfoldable pub mnemonic_line : List ℕ → List (List ℕ) → List ℕ
-mnemonic_line name known =
-    if aligns_to_power name then codes "nearest: .balign, in bytes: .balign 4 for .align 2, .balign 8 for .align 3\n"
-    else if bytes_eq name (codes ".section") then names_line (codes ".text" ∷ codes ".data" ∷ [])
-    else option_map_or (λ other. names_line (other ∷ [])) (counterpart name) (unfamiliar_line name known)
+mnemonic_line name known = small_line (in_small_letters name) name known
+
+-- the line on an unknown CSR: nothing of one that has a hint
+unfoldable pub csr_line : List ℕ → List (List ℕ) → List ℕ
+csr_line name known = if length (csr_hint name) == 0 then spelling_line name known else []
 
 -- the line on an unknown name of assembly; that of a symbol may have capital letters
 unfoldable pub known_line : AsmFault → List ℕ → List (List ℕ) → List ℕ
 known_line UnknownMnemonic name known = mnemonic_line name known
 known_line UnknownSymbol name known = names_line (nearest name known)
+known_line BadOperands name known = csr_line name known
 known_line _ name known = spelling_line name known
 
 -- that on the unknown name of a line at fault with these tokens, where its fault is one of a name, of an assembly that

@@ -1,13 +1,16 @@
 -- What to write in place of the operand of a statement that is at fault.
-use Rattle.std.specs.Prelude.{ℕ, List, [], ◌∷◌, ◌++◌, codes, Bool, true, false, ◌&&◌, ◌||◌, if◌then◌else◌}
+use Rattle.std.specs.Prelude.{ℕ, List, [], ◌∷◌, ◌++◌, codes, Bool, false, ◌&&◌, ◌||◌, if◌then◌else◌}
 use Rattle.std.specs.{Option.option_map_or, Str.bytes_eq}
 use Rattle.rv_asm.specs.Token.{Token}
 use Rattle.rv_asm.specs.Token as token
 use Rattle.rv_asm.specs.declared.fault.AsmFault.TheVariants as fault
 use Rattle.rv_refusal.specs.Culprit.{operand_of_fault}
-use Rattle.rv_refusal.specs.Names.{registers}
+use Rattle.rv_refusal.specs.ForeignName.{csr_hint}
+use Rattle.rv_refusal.specs.Names.{registers, takes_csr}
 use Rattle.rv_refusal.specs.NameOn.{begins_with}
 use Rattle.rv_refusal.specs.NameSet.{is_one_of}
+use Rattle.rv_refusal.specs.OperandShape.{begins_with_address, begins_with_number, lacks_closing, lacks_comma}
+use Rattle.rv_refusal.specs.OperandShape.{lacks_opening, stands_before_another}
 use Rattle.rv_refusal.specs.Statement.{first_name}
 
 -- what to write in place of a register where a value is to stand
@@ -16,35 +19,6 @@ register_hint name =
     if is_one_of registers name
     then codes "hint: " ++ (name ++ codes " is a register, and a symbol or a number stands here\n")
     else []
-
--- the token is a name or a number
-abbrev pub is_word : Token → Bool
-is_word (token.Name name) = true
-is_word (token.Number number) = true
-is_word _ = false
-
--- two names or numbers stand side by side
-abbrev pub lacks_comma : List Token → Bool
-lacks_comma (first ∷ second ∷ rest) = is_word first && is_word second
-lacks_comma _ = false
-
--- nothing is left of an operand
-abbrev pub is_ended : List Token → Bool
-is_ended [] = true
-is_ended (token.Comma ∷ rest) = true
-is_ended _ = false
-
--- the operand at the front is a number
-abbrev pub begins_with_number : List Token → Bool
-begins_with_number (token.Number number ∷ rest) = is_ended rest
-begins_with_number (token.Minus ∷ token.Number number ∷ rest) = is_ended rest
-begins_with_number _ = false
-
--- a number and another operand after it stand at the front
-abbrev pub stands_before_another : List Token → Bool
-stands_before_another (token.Number number ∷ token.Comma ∷ rest) = true
-stands_before_another (token.Minus ∷ token.Number number ∷ token.Comma ∷ rest) = true
-stands_before_another _ = false
 
 -- an instruction takes registers before its symbol or its address: a branch on two of them, and a store
 abbrev pub begins_with_registers : List ℕ → Bool
@@ -93,28 +67,6 @@ accesses_memory name =
 abbrev pub takes_offset : List ℕ → Bool
 takes_offset name = accesses_memory name || bytes_eq name (codes "jalr")
 
--- a name stands after a number, with a comma or nothing in the place of the parenthesis between them
-abbrev pub lacks_opening : List Token → Bool
-lacks_opening (token.Number number ∷ token.Name name ∷ rest) = true
-lacks_opening (token.Number number ∷ token.Comma ∷ token.Name name ∷ rest) = true
-lacks_opening (token.Minus ∷ token.Number number ∷ token.Name name ∷ rest) = true
-lacks_opening (token.Minus ∷ token.Number number ∷ token.Comma ∷ token.Name name ∷ rest) = true
-lacks_opening _ = false
-
--- the parenthesis after a name is missing at the end
-abbrev pub lacks_closing : List Token → Bool
-lacks_closing (token.LeftParenthesis ∷ token.Name name ∷ []) = true
-lacks_closing (token.Number number ∷ token.LeftParenthesis ∷ token.Name name ∷ []) = true
-lacks_closing _ = false
-
--- an offset with a register and another operand after it stand at the front
-abbrev pub begins_with_address : List Token → Bool
-begins_with_address
-    (token.LeftParenthesis ∷ token.Name name ∷ token.RightParenthesis ∷ token.Comma ∷ rest) = true
-begins_with_address
-    (token.Number number ∷ token.LeftParenthesis ∷ token.Name name ∷ token.RightParenthesis ∷ token.Comma ∷ rest) = true
-begins_with_address _ = false
-
 -- an offset with a register stands before the register of a load or a store
 abbrev pub is_reversed : List ℕ → List Token → Bool
 is_reversed name operand = accesses_memory name && begins_with_address operand
@@ -156,7 +108,8 @@ named_hint name other =
     if accesses_memory name then address_hint other
     else (if bytes_eq name (codes "jalr") then jump_hint other
     else (if bytes_eq name (codes "li") then load_hint other
-    else []))
+    else (if takes_csr name then csr_hint other
+    else [])))
 
 -- statements without operands
 unfoldable pub bare_statements : List (List ℕ)

@@ -1,12 +1,14 @@
 ghost use Rattle.std.specs.Prelude.{◌≡◌, ◌++◌, IfOk, OnOk};
-ghost use Rattle.rv_refusal.specs.ByteHint.{byte_hint, bytes_hint, describes, equals_hint, foreign_hint};
-ghost use Rattle.rv_refusal.specs.ByteHint.{has_order_mark, has_wide_mark, is_bracket, is_mark, is_relocation};
-ghost use Rattle.rv_refusal.specs.ByteHint.{mark_hint, reads_as_part, sets_register, value_hint};
+ghost use Rattle.rv_refusal.specs.ByteHint.{bracket_hint, byte_hint, bytes_hint, describes, equals_hint};
+ghost use Rattle.rv_refusal.specs.ByteHint.{foreign_hint, has_order_mark, has_wide_mark, is_bracket, is_mark};
+ghost use Rattle.rv_refusal.specs.ByteHint.{is_relocation, mark_hint, moves_to_stack, reads_as_part};
+ghost use Rattle.rv_refusal.specs.ByteHint.{sets_register, value_hint};
 
 use crate::caret::token_place;
+use crate::foreign_name::stack_hint;
 use crate::key_line::is_among;
 use crate::key_names::is_described;
-use crate::name_on::{begins_with, goes_on_with, key_on, value_on};
+use crate::name_on::{begins_with, goes_on_with, key_on, name_after, value_on};
 use crate::names::registers;
 use crate::text::add_text;
 use std::alloc::{AllocError, Global};
@@ -67,6 +69,28 @@ fn equals_hint(line: &[u8]) -> &'static [u8]
     value_hint(line)
 }
 
+// Whether a line begins with an instruction of other machines that moves registers in braces to the stack, or from it.
+fn moves_to_stack(line: &[u8]) -> bool
+    ensures { result ≡ moves_to_stack line.now }
+{
+    match name_after(0, b'{', line) {
+        Some(on) => is_among(on.name, &[b"push", b"pop", b"PUSH", b"POP"]),
+        None => false,
+    }
+}
+
+// What to write in place of a bracket on a line.
+#[tactic(auto, unfolding(crate::specs::ByteHint::bracket_hint))]
+fn bracket_hint(line: &[u8]) -> &'static [u8]
+    ensures { result.now ≡ bracket_hint line.now }
+{
+    if moves_to_stack(line) {
+        stack_hint()
+    } else {
+        b"hint: an address is written as offset(register), as in 8(sp)\n"
+    }
+}
+
 // What to write in place of an operator, a bracket, a quote or a sign of other assemblers on a line.
 #[tactic(auto, unfolding(crate::specs::ByteHint::mark_hint))]
 fn mark_hint(line: &[u8], byte: u8) -> &'static [u8]
@@ -91,7 +115,7 @@ fn mark_hint(line: &[u8], byte: u8) -> &'static [u8]
         return equals_hint(line);
     }
     if is_bracket(line, byte) {
-        return b"hint: an address is written as offset(register), as in 8(sp)\n";
+        return bracket_hint(line);
     }
     if byte == b'@' {
         return b"hint: a line of .type may be left out, and a comment begins with #\n";

@@ -1,155 +1,112 @@
-ghost use Rattle.std.specs.Prelude.{◌≡◌, option_copied};
-ghost use Rattle.rv_refusal.specs.Counterpart.{counterpart, directive_for, jump_for, mnemonic_for, operation_for};
-ghost use Rattle.rv_refusal.specs.Counterpart.{system_for};
+ghost use Rattle.std.specs.Prelude.{◌≡◌, map, option_copied};
+ghost use Rattle.rv_asm.specs.Names.{named};
+ghost use Rattle.rv_refusal.specs.Counterpart.{counterpart, counterparts};
 
-use crate::key_line::is_among;
+// What others write, and what to write in its place.
+static COUNTERPARTS: [(&[u8], &[u8]); 75] = [
+    // directives of other assemblers
+    (b".set", b".equ"),
+    (b".eqv", b".equ"),
+    (b".define", b".equ"),
+    (b".long", b".word"),
+    (b".int", b".word"),
+    (b".4byte", b".word"),
+    (b".quad", b".word"),
+    (b".dword", b".word"),
+    (b".8byte", b".word"),
+    (b"dd", b".word"),
+    (b".short", b".half"),
+    (b".hword", b".half"),
+    (b".2byte", b".half"),
+    (b"dw", b".half"),
+    (b"db", b".byte"),
+    (b".fill", b".zero"),
+    (b".comm", b".zero"),
+    (b".lcomm", b".zero"),
+    (b".rodata", b".data"),
+    (b".rdata", b".data"),
+    (b".bss", b".data"),
+    (b".sdata", b".data"),
+    (b".sbss", b".data"),
+    // jumps and branches
+    (b"b", b"j"),
+    (b"br", b"j"),
+    (b"jmp", b"j"),
+    (b"jump", b"j"),
+    (b"goto", b"j"),
+    (b"tail", b"j"),
+    (b"bl", b"call"),
+    (b"bx", b"jr"),
+    (b"return", b"ret"),
+    (b"cbz", b"beqz"),
+    (b"cbnz", b"bnez"),
+    // what moves or computes a value
+    (b"subi", b"addi"),
+    (b"inc", b"addi"),
+    (b"dec", b"addi"),
+    (b"mov", b"mv"),
+    (b"move", b"mv"),
+    (b"movi", b"li"),
+    (b"ldi", b"li"),
+    (b"lla", b"la"),
+    (b"ld", b"lw"),
+    (b"lwu", b"lw"),
+    (b"ldr", b"lw"),
+    (b"load", b"lw"),
+    (b"sd", b"sw"),
+    (b"str", b"sw"),
+    (b"store", b"sw"),
+    (b"shl", b"sll"),
+    (b"lsl", b"sll"),
+    (b"sal", b"sll"),
+    (b"shr", b"srl"),
+    (b"lsr", b"srl"),
+    (b"sar", b"sra"),
+    (b"asr", b"sra"),
+    (b"mod", b"rem"),
+    (b"mflo", b"mul"),
+    (b"mfhi", b"mulh"),
+    // what traps, returns from a trap, ends a program, or does nothing
+    (b"scall", b"ecall"),
+    (b"syscall", b"ecall"),
+    (b"svc", b"ecall"),
+    (b"swi", b"ecall"),
+    (b"int", b"ecall"),
+    (b"halt", b"ebreak"),
+    (b"hlt", b"ebreak"),
+    (b"exit", b"ebreak"),
+    (b"break", b"ebreak"),
+    (b"sbreak", b"ebreak"),
+    (b"sret", b"mret"),
+    (b"uret", b"mret"),
+    (b"eret", b"mret"),
+    (b"iret", b"mret"),
+    (b"fence.tso", b"fence"),
+    (b"noop", b"nop"),
+];
 
-// The directive to write in place of one of other assemblers.
-#[tactic(auto, unfolding(crate::specs::Counterpart::directive_for))]
-fn directive_for(name: &[u8]) -> Option<&'static [u8]>
-    ensures { option_copied result ≡ directive_for name.now }
+#[tactic(auto, unfolding(crate::specs::Counterpart::counterparts))]
+fn counterparts() -> &'static [(&'static [u8], &'static [u8])]
+    ensures { map (λ row. (row.0.now, row.1.now)) result.now ≡ counterparts }
 {
-    if is_among(name, &[b".set", b".eqv", b".define"]) {
-        return Some(b".equ");
-    }
-    if is_among(
-        name,
-        &[
-            b".long", b".int", b".4byte", b".quad", b".dword", b".8byte", b"dd",
-        ],
-    ) {
-        return Some(b".word");
-    }
-    if is_among(name, &[b".short", b".hword", b".2byte", b"dw"]) {
-        return Some(b".half");
-    }
-    if name == b"db".as_slice() {
-        return Some(b".byte");
-    }
-    if is_among(name, &[b".fill", b".comm", b".lcomm"]) {
-        return Some(b".zero");
-    }
-    if is_among(name, &[b".rodata", b".rdata", b".bss", b".sdata", b".sbss"]) {
-        return Some(b".data");
-    }
-    None
+    &COUNTERPARTS
 }
 
-// The jump or branch to write in place of one of other assemblers or machines.
-#[tactic(auto, unfolding(crate::specs::Counterpart::jump_for))]
-fn jump_for(name: &[u8]) -> Option<&'static [u8]>
-    ensures { option_copied result ≡ jump_for name.now }
+// What the first row with a name has.
+fn named(table: &[(&[u8], &'static [u8])], name: &[u8]) -> Option<&'static [u8]>
+    ensures { option_copied result ≡ named (map (λ row. (row.0.now, row.1.now)) table.now) name.now }
 {
-    if is_among(name, &[b"b", b"br", b"jmp", b"jump", b"goto", b"tail"]) {
-        return Some(b"j");
-    }
-    if name == b"bl".as_slice() {
-        return Some(b"call");
-    }
-    if name == b"bx".as_slice() {
-        return Some(b"jr");
-    }
-    if name == b"return".as_slice() {
-        return Some(b"ret");
-    }
-    if name == b"cbz".as_slice() {
-        return Some(b"beqz");
-    }
-    if name == b"cbnz".as_slice() {
-        return Some(b"bnez");
+    for row in table {
+        if row.0 == name {
+            return Some(row.1);
+        }
     }
     None
-}
-
-// What to write in place of an instruction of other assemblers or machines that moves or computes a value.
-#[tactic(auto, unfolding(crate::specs::Counterpart::operation_for))]
-fn operation_for(name: &[u8]) -> Option<&'static [u8]>
-    ensures { option_copied result ≡ operation_for name.now }
-{
-    if is_among(name, &[b"subi", b"inc", b"dec"]) {
-        return Some(b"addi");
-    }
-    if is_among(name, &[b"mov", b"move"]) {
-        return Some(b"mv");
-    }
-    if is_among(name, &[b"movi", b"ldi"]) {
-        return Some(b"li");
-    }
-    if name == b"lla".as_slice() {
-        return Some(b"la");
-    }
-    if is_among(name, &[b"ld", b"lwu", b"ldr", b"load"]) {
-        return Some(b"lw");
-    }
-    if is_among(name, &[b"sd", b"str", b"store"]) {
-        return Some(b"sw");
-    }
-    if is_among(name, &[b"shl", b"lsl", b"sal"]) {
-        return Some(b"sll");
-    }
-    if is_among(name, &[b"shr", b"lsr"]) {
-        return Some(b"srl");
-    }
-    if is_among(name, &[b"sar", b"asr"]) {
-        return Some(b"sra");
-    }
-    if name == b"mod".as_slice() {
-        return Some(b"rem");
-    }
-    if name == b"mflo".as_slice() {
-        return Some(b"mul");
-    }
-    if name == b"mfhi".as_slice() {
-        return Some(b"mulh");
-    }
-    None
-}
-
-// What to write in place of an instruction of other assemblers or machines that traps, returns from a trap, ends a
-// program, or does nothing.
-#[tactic(auto, unfolding(crate::specs::Counterpart::system_for))]
-fn system_for(name: &[u8]) -> Option<&'static [u8]>
-    ensures { option_copied result ≡ system_for name.now }
-{
-    if is_among(name, &[b"scall", b"syscall", b"svc", b"swi", b"int"]) {
-        return Some(b"ecall");
-    }
-    if is_among(name, &[b"halt", b"hlt", b"exit", b"break", b"sbreak"]) {
-        return Some(b"ebreak");
-    }
-    if is_among(name, &[b"sret", b"uret", b"eret", b"iret"]) {
-        return Some(b"mret");
-    }
-    if name == b"fence.tso".as_slice() {
-        return Some(b"fence");
-    }
-    if name == b"noop".as_slice() {
-        return Some(b"nop");
-    }
-    None
-}
-
-// What to write in place of a mnemonic of other assemblers or machines.
-#[tactic(auto, unfolding(crate::specs::Counterpart::mnemonic_for))]
-fn mnemonic_for(name: &[u8]) -> Option<&'static [u8]>
-    ensures { option_copied result ≡ mnemonic_for name.now }
-{
-    if let Some(jump) = jump_for(name) {
-        return Some(jump);
-    }
-    if let Some(operation) = operation_for(name) {
-        return Some(operation);
-    }
-    system_for(name)
 }
 
 /// What to write in place of a name of other assemblers or machines.
-#[tactic(auto, unfolding(crate::specs::Counterpart::counterpart))]
 pub(crate) fn counterpart(name: &[u8]) -> Option<&'static [u8]>
     ensures { option_copied result ≡ counterpart name.now }
 {
-    if let Some(directive) = directive_for(name) {
-        return Some(directive);
-    }
-    mnemonic_for(name)
+    named(counterparts(), name)
 }

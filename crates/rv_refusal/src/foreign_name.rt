@@ -1,7 +1,8 @@
 ghost use Rattle.std.specs.Prelude.{◌≡◌, map};
-ghost use Rattle.rv_refusal.specs.ForeignName.{comparisons, directive_hint, double_directives, extensions};
-ghost use Rattle.rv_refusal.specs.ForeignName.{float_names, foreign_hint, idle_directives, line_directives};
-ghost use Rattle.rv_refusal.specs.ForeignName.{mnemonic_hint, stack_names};
+ghost use Rattle.rv_refusal.specs.ForeignName.{comparisons, counter_hint, counter_reads, counters, csr_hint};
+ghost use Rattle.rv_refusal.specs.ForeignName.{directive_hint, double_directives, extensions, float_names};
+ghost use Rattle.rv_refusal.specs.ForeignName.{foreign_hint, idle_directives, line_directives, mnemonic_hint};
+ghost use Rattle.rv_refusal.specs.ForeignName.{stack_hint, stack_names};
 
 use crate::key_line::is_among;
 use crate::name_on::begins_with;
@@ -56,6 +57,32 @@ static EXTENSIONS: [&[u8]; 12] = [
     b"sc.w",
 ];
 
+// CSRs of other machines that count cycles, instructions or time.
+static COUNTERS: [&[u8]; 12] = [
+    b"cycle",
+    b"cycleh",
+    b"time",
+    b"timeh",
+    b"instret",
+    b"instreth",
+    b"mcycle",
+    b"mcycleh",
+    b"minstret",
+    b"minstreth",
+    b"mtime",
+    b"mtimeh",
+];
+
+// Instructions that read them.
+static COUNTER_READS: [&[u8]; 6] = [
+    b"rdcycle",
+    b"rdcycleh",
+    b"rdtime",
+    b"rdtimeh",
+    b"rdinstret",
+    b"rdinstreth",
+];
+
 #[tactic(auto, unfolding(crate::specs::ForeignName::idle_directives))]
 fn idle_directives() -> &'static [&'static [u8]]
     ensures { map (λ name. name.now) result.now ≡ idle_directives }
@@ -105,6 +132,48 @@ fn extensions() -> &'static [&'static [u8]]
     &EXTENSIONS
 }
 
+#[tactic(auto, unfolding(crate::specs::ForeignName::counters))]
+fn counters() -> &'static [&'static [u8]]
+    ensures { map (λ name. name.now) result.now ≡ counters }
+{
+    &COUNTERS
+}
+
+#[tactic(auto, unfolding(crate::specs::ForeignName::counter_reads))]
+fn counter_reads() -> &'static [&'static [u8]]
+    ensures { map (λ name. name.now) result.now ≡ counter_reads }
+{
+    &COUNTER_READS
+}
+
+/// How a register is moved to the stack, and from it.
+#[tactic(auto, unfolding(crate::specs::ForeignName::stack_hint))]
+pub(crate) fn stack_hint() -> &'static [u8]
+    ensures { result.now ≡ stack_hint }
+{
+    b"hint: addi sp, sp, -4 and sw ra, 0(sp) push ra; lw ra, 0(sp) and addi sp, sp, 4 pop it\n"
+}
+
+// That nothing counts.
+#[tactic(auto, unfolding(crate::specs::ForeignName::counter_hint))]
+fn counter_hint() -> &'static [u8]
+    ensures { result.now ≡ counter_hint }
+{
+    b"hint: the machine has no counters: the lines cycles and retired of the report say what a run took\n"
+}
+
+/// What to write in place of a CSR of other machines that none here stands for.
+#[tactic(auto, unfolding(crate::specs::ForeignName::csr_hint))]
+pub(crate) fn csr_hint(name: &[u8]) -> &'static [u8]
+    ensures { result.now ≡ csr_hint name.now }
+{
+    if is_among(name, counters()) {
+        counter_hint()
+    } else {
+        b""
+    }
+}
+
 // What to write in place of a statement with a directive of other assemblers.
 #[tactic(auto, unfolding(crate::specs::ForeignName::directive_hint))]
 fn directive_hint(name: &[u8]) -> &'static [u8]
@@ -131,13 +200,16 @@ fn mnemonic_hint(name: &[u8]) -> &'static [u8]
     ensures { result.now ≡ mnemonic_hint name.now }
 {
     if is_among(name, stack_names()) {
-        return b"hint: addi sp, sp, -4 and sw ra, 0(sp) push ra; lw ra, 0(sp) and addi sp, sp, 4 pop it\n";
+        return stack_hint();
     }
     if is_among(name, comparisons()) {
         return b"hint: a branch compares two registers itself, as in beq a0, a1, loop\n";
     }
     if is_among(name, extensions()) {
         return b"hint: the machine has the base instructions, M, Zicsr, Zifencei, and three of Zba\n";
+    }
+    if is_among(name, counter_reads()) {
+        return counter_hint();
     }
     if name == b"section".as_slice() {
         return b"hint: a line .text or .data begins a section\n";

@@ -2,8 +2,9 @@ ghost use Rattle.std.specs.Prelude.{◌≡◌, ◌≤◌, ◌++◌, [], IfOk, No
 ghost use Rattle.std.specs.List.{prefix_len};
 ghost use Rattle.rv_isa.specs.Key.{order};
 ghost use Rattle.rv_refusal.specs.KeyHint.{all_names, arrivals_line, bare_keys, before_dot, each_name, given_table};
-ghost use Rattle.rv_refusal.specs.KeyHint.{here_line, is_undotted, key_hint, name_hint, names_size, near_or_keys};
-ghost use Rattle.rv_refusal.specs.KeyHint.{outside_line, size_line, table_hint, table_keys, top_names};
+ghost use Rattle.rv_refusal.specs.KeyHint.{here_line, is_undotted, key_hint, meant_line, name_hint, names_ram};
+ghost use Rattle.rv_refusal.specs.KeyHint.{names_size, near_or_keys, outside_line, ram_line, size_line};
+ghost use Rattle.rv_refusal.specs.KeyHint.{table_hint, table_keys, top_names};
 ghost use Rattle.rv_refusal.specs.KeyLine.{key_line};
 ghost use Rattle.rv_refusal.specs.KeyNames.{names_in, tables_from};
 ghost use Rattle.rv_refusal.specs.OrElse.{or_else};
@@ -241,8 +242,51 @@ fn size_line() -> &'static [u8]
     b"hint: the cache has cache.sets times cache.ways times cache.line bytes\n"
 }
 
-// Appends the lines on an unknown name that is none of arrivals: the size of the cache, or one that is known where no
-// table stands above it, or another.
+// Whether a name is meant as RAM, or as its first address or its size.
+#[tactic(auto, unfolding(crate::specs::KeyHint::names_ram))]
+fn names_ram(name: &[u8]) -> bool
+    ensures { result ≡ names_ram name.now }
+{
+    is_among(
+        name,
+        &[
+            b"ram",
+            b"memory",
+            b"ram.size",
+            b"ram.base",
+            b"memory.size",
+            b"memory.base",
+            b"mem.size",
+            b"memory_size",
+            b"mem_size",
+        ],
+    )
+}
+
+// Which keys RAM has.
+#[tactic(auto, unfolding(crate::specs::KeyHint::ram_line))]
+fn ram_line() -> &'static [u8]
+    ensures { result.now ≡ ram_line }
+{
+    b"hint: ram_base says where RAM begins, and ram_size its bytes, both above the first [table]\n"
+}
+
+// The line on a name that is meant as the size of the cache or as RAM, empty where it is neither.
+#[tactic(auto, unfolding(crate::specs::KeyHint::meant_line))]
+fn meant_line(name: &[u8]) -> &'static [u8]
+    ensures { result.now ≡ meant_line name.now }
+{
+    if names_size(name) {
+        return size_line();
+    }
+    if names_ram(name) {
+        return ram_line();
+    }
+    b""
+}
+
+// Appends the lines on an unknown name that is none of arrivals: one that is meant as something else, or that is known
+// where no table stands above it, or another.
 #[tactic(auto, unfolding(crate::specs::KeyHint::name_hint))]
 fn add_name_hint(
     alloc: Global,
@@ -255,8 +299,9 @@ fn add_name_hint(
         (key_line found.entry) (map (λ name. name.now) keys.now)) }
 {
     let name = full_name(alloc, found)?;
-    if names_size(name.as_slice()) {
-        return add_text(out, size_line());
+    let meant = meant_line(name.as_slice());
+    if !meant.is_empty() {
+        return add_text(out, meant);
     }
     if is_among(found.name, known) {
         return add_outside_line(alloc, out, found);

@@ -27,6 +27,7 @@ mod name_set;
 mod names;
 mod near;
 mod operand_hint;
+mod operand_shape;
 mod operand_tokens;
 mod operands;
 mod place;

@@ -1,4 +1,4 @@
-ghost use Rattle.std.specs.Prelude.{◌≡◌, ◌++◌, IfOk, OnOk};
+ghost use Rattle.std.specs.Prelude.{◌≡◌, ◌++◌, OnOk};
 ghost use Rattle.rv_asm.specs.Read.{tokens_in};
 ghost use Rattle.rv_refusal.specs.NameHint.{is_known_otherwise, label_hint, name_hint, reads_as_label, statement_hint};
 ghost use Rattle.rv_refusal.specs.NameHint.{unknown_hint};
@@ -21,28 +21,24 @@ fn reads_as_label(body: &[Token<'_>]) -> bool
     }
 }
 
-// Whether a name is known otherwise: from other assemblers, or in small letters.
-fn is_known_otherwise(alloc: Global, name: &[u8]) -> Result<bool, AllocError>
-    ensures { IfOk result (λ known. known ≡ is_known_otherwise name.now) }
+// Whether a name in small letters is known otherwise: from other assemblers, or here.
+fn is_known_otherwise(small: &[u8]) -> bool
+    ensures { result ≡ is_known_otherwise small.now }
 {
-    if counterpart(name).is_some() {
-        return Ok(true);
-    }
-    let small = name.to_ascii_lowercase(alloc)?;
-    Ok(form_named(small.as_slice()).is_some())
+    counterpart(small).is_some() || form_named(small).is_some()
 }
 
-// Appends what to write in place of a statement with an unknown mnemonic.
+// Appends what to write in place of a statement with an unknown mnemonic, which is so in small letters.
 #[tactic(auto, unfolding(crate::specs::NameHint::label_hint))]
 fn add_label_hint(
-    alloc: Global,
     out: &mut Vec<u8>,
+    small: &[u8],
     name: &[u8],
     body: &[Token<'_>],
 ) -> Result<(), AllocError>
-    ensures { OnOk result (out.new.items ≡ out.old.items ++ label_hint name.now (tokens_in body.now)) }
+    ensures { OnOk result (out.new.items ≡ out.old.items ++ label_hint small.now name.now (tokens_in body.now)) }
 {
-    if is_known_otherwise(alloc, name)? {
+    if is_known_otherwise(small) {
         return Ok(());
     }
     if !reads_as_label(body) {
@@ -54,19 +50,20 @@ fn add_label_hint(
     )
 }
 
-// Appends what to write in place of a statement with a name that no other assembler has, either.
+// Appends what to write in place of a statement with a name that no other assembler has, either, which is so in small
+// letters.
 fn add_unknown_hint(
-    alloc: Global,
     out: &mut Vec<u8>,
+    small: &[u8],
     body: &[Token<'_>],
     name: &[u8],
 ) -> Result<(), AllocError>
-    ensures { OnOk result (out.new.items ≡ out.old.items ++ unknown_hint (tokens_in body.now) name.now) }
+    ensures { OnOk result (out.new.items ≡ out.old.items ++ unknown_hint small.now (tokens_in body.now) name.now) }
 {
     if begins_with(b'.', name) {
         return Ok(());
     }
-    add_label_hint(alloc, out, name, body)
+    add_label_hint(out, small, name, body)
 }
 
 // Appends what to write in place of a statement with an unknown name.
@@ -78,9 +75,10 @@ fn add_name_hint(
 ) -> Result<(), AllocError>
     ensures { OnOk result (out.new.items ≡ out.old.items ++ name_hint (tokens_in body.now) name.now) }
 {
-    let hint = foreign_hint(name);
+    let small = name.to_ascii_lowercase(alloc)?;
+    let hint = foreign_hint(small.as_slice());
     if hint.is_empty() {
-        return add_unknown_hint(alloc, out, body, name);
+        return add_unknown_hint(out, small.as_slice(), body, name);
     }
     add_text(out, hint)
 }

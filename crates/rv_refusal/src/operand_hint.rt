@@ -1,22 +1,25 @@
 ghost use Rattle.std.specs.Prelude.{◌≡◌, ◌++◌, OnOk, map};
-ghost use Rattle.rv_asm.specs.Read.{token_of, tokens_in};
+ghost use Rattle.rv_asm.specs.Read.{tokens_in};
 ghost use Rattle.rv_refusal.specs.NameSet.{holds};
-ghost use Rattle.rv_refusal.specs.OperandHint.{accesses_memory, address_hint, bare_statements, begins_with_address};
-ghost use Rattle.rv_refusal.specs.OperandHint.{begins_with_number, begins_with_registers, is_ended, is_reversed};
-ghost use Rattle.rv_refusal.specs.OperandHint.{is_word, jump_hint, jumps_to_name, lacks_closing, lacks_comma};
-ghost use Rattle.rv_refusal.specs.OperandHint.{lacks_opening, lacks_parenthesis, load_hint, loaded_hint, named_hint};
-ghost use Rattle.rv_refusal.specs.OperandHint.{nothing_hint, number_hint, offset_hint, operand_hint, operands_hint};
-ghost use Rattle.rv_refusal.specs.OperandHint.{products, range_hint, register_hint, reversed_hint};
-ghost use Rattle.rv_refusal.specs.OperandHint.{stands_before_another, takes_offset, target_hint, with_number};
-ghost use Rattle.rv_refusal.specs.OperandHint.{written_hint};
+ghost use Rattle.rv_refusal.specs.OperandHint.{accesses_memory, address_hint, bare_statements, begins_with_registers};
+ghost use Rattle.rv_refusal.specs.OperandHint.{is_reversed, jump_hint, jumps_to_name, lacks_parenthesis, load_hint};
+ghost use Rattle.rv_refusal.specs.OperandHint.{loaded_hint, named_hint, nothing_hint, number_hint, offset_hint};
+ghost use Rattle.rv_refusal.specs.OperandHint.{operand_hint, operands_hint, products, range_hint, register_hint};
+ghost use Rattle.rv_refusal.specs.OperandHint.{reversed_hint, takes_offset, target_hint, with_number, written_hint};
 
 use crate::culprit::operand_of_fault;
+use crate::foreign_name::csr_hint;
 use crate::key_line::is_among;
 use crate::name_on::begins_with;
 use crate::name_set::NameSet;
 use crate::names::registers;
+use crate::operand_shape::{
+    begins_with_address, begins_with_number, lacks_closing, lacks_comma, lacks_opening,
+    stands_before_another,
+};
 use crate::statement::first_name;
 use crate::text::{add_all, add_text};
+use crate::unknown::takes_csr;
 use rv_asm::{AsmFault, Token};
 use std::alloc::AllocError;
 
@@ -59,51 +62,6 @@ pub(crate) fn add_register_hint(out: &mut Vec<u8>, name: &[u8]) -> Result<(), Al
             name,
             b" is a register, and a symbol or a number stands here\n",
         ],
-    )
-}
-
-fn is_word(token: &Token<'_>) -> bool
-    ensures { result ≡ is_word (token_of token.now) }
-{
-    matches!(token, Token::Name(_) | Token::Number(_))
-}
-
-// Whether two names or numbers stand side by side.
-fn lacks_comma(operand: &[Token<'_>]) -> bool
-    ensures { result ≡ lacks_comma (tokens_in operand.now) }
-{
-    match operand {
-        [first, second, ..] => is_word(first) && is_word(second),
-        _ => false,
-    }
-}
-
-// Whether nothing is left of an operand.
-fn is_ended(rest: &[Token<'_>]) -> bool
-    ensures { result ≡ is_ended (tokens_in rest.now) }
-{
-    matches!(rest, [] | [Token::Comma, ..])
-}
-
-// Whether the operand at the front is a number.
-fn begins_with_number(operand: &[Token<'_>]) -> bool
-    ensures { result ≡ begins_with_number (tokens_in operand.now) }
-{
-    match operand {
-        [Token::Number(_), rest @ ..] | [Token::Minus, Token::Number(_), rest @ ..] => {
-            is_ended(rest)
-        }
-        _ => false,
-    }
-}
-
-// Whether a number and another operand after it stand at the front.
-fn stands_before_another(operand: &[Token<'_>]) -> bool
-    ensures { result ≡ stands_before_another (tokens_in operand.now) }
-{
-    matches!(
-        operand,
-        [Token::Number(_), Token::Comma, ..] | [Token::Minus, Token::Number(_), Token::Comma, ..]
     )
 }
 
@@ -192,59 +150,6 @@ fn takes_offset(name: &[u8]) -> bool
     accesses_memory(name) || name == b"jalr".as_slice()
 }
 
-// Whether a name stands after a number, with a comma or nothing in the place of the parenthesis between them.
-fn lacks_opening(operand: &[Token<'_>]) -> bool
-    ensures { result ≡ lacks_opening (tokens_in operand.now) }
-{
-    matches!(
-        operand,
-        [Token::Number(_), Token::Name(_), ..]
-            | [Token::Number(_), Token::Comma, Token::Name(_), ..]
-            | [Token::Minus, Token::Number(_), Token::Name(_), ..]
-            | [
-                Token::Minus,
-                Token::Number(_),
-                Token::Comma,
-                Token::Name(_),
-                ..
-            ]
-    )
-}
-
-// Whether the parenthesis after a name is missing at the end.
-fn lacks_closing(operand: &[Token<'_>]) -> bool
-    ensures { result ≡ lacks_closing (tokens_in operand.now) }
-{
-    matches!(
-        operand,
-        [Token::LeftParenthesis, Token::Name(_)]
-            | [Token::Number(_), Token::LeftParenthesis, Token::Name(_)]
-    )
-}
-
-// Whether an offset with a register and another operand after it stand at the front.
-fn begins_with_address(operand: &[Token<'_>]) -> bool
-    ensures { result ≡ begins_with_address (tokens_in operand.now) }
-{
-    matches!(
-        operand,
-        [
-            Token::LeftParenthesis,
-            Token::Name(_),
-            Token::RightParenthesis,
-            Token::Comma,
-            ..
-        ] | [
-            Token::Number(_),
-            Token::LeftParenthesis,
-            Token::Name(_),
-            Token::RightParenthesis,
-            Token::Comma,
-            ..
-        ]
-    )
-}
-
 // That a load or a store has its register first.
 #[tactic(auto, unfolding(crate::specs::OperandHint::reversed_hint))]
 fn reversed_hint() -> &'static [u8]
@@ -320,6 +225,9 @@ fn named_hint(name: &[u8], other: &[u8]) -> &'static [u8]
     }
     if name == b"li".as_slice() {
         return load_hint(other);
+    }
+    if takes_csr(name) {
+        return csr_hint(other);
     }
     b""
 }

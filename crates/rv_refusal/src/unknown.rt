@@ -1,12 +1,13 @@
 ghost use Rattle.std.specs.Prelude.{◌≡◌, ◌++◌, OnOk, map, option_copied};
 ghost use Rattle.rv_asm.specs.Read.{tokens_in};
-ghost use Rattle.rv_refusal.specs.Names.{known_names, names_csr, unknown_name};
+ghost use Rattle.rv_refusal.specs.Names.{known_names, names_csr, takes_csr, unknown_name};
 ghost use Rattle.rv_refusal.specs.NameSet.{holds};
-ghost use Rattle.rv_refusal.specs.Near.{aligns_to_power, known_line, mnemonic_line, nearest_line, unfamiliar_line};
+ghost use Rattle.rv_refusal.specs.Near.{aligns_to_power, csr_line, known_line, mnemonic_line, nearest_line};
+ghost use Rattle.rv_refusal.specs.Near.{small_line, unfamiliar_line};
 
 use crate::counterpart::counterpart;
 use crate::culprit::operand_of_fault;
-use crate::foreign_name::foreign_hint;
+use crate::foreign_name::{csr_hint, foreign_hint};
 use crate::name_on::begins_with;
 use crate::name_set::NameSet;
 use crate::names::{add_mnemonics, csrs, directives, registers};
@@ -16,17 +17,24 @@ use crate::text::add_text;
 use rv_asm::{AsmFault, Form, Operation, Token, form_named};
 use std::alloc::{AllocError, Global};
 
-// Whether a statement has a CSR among its operands.
-fn names_csr(body: &[Token<'_>]) -> bool
-    ensures { result ≡ names_csr (tokens_in body.now) }
+/// Whether an instruction has a CSR among its operands.
+pub(crate) fn takes_csr(name: &[u8]) -> bool
+    ensures { result ≡ takes_csr name.now }
 {
-    let Some(name) = first_name(body) else {
-        return false;
-    };
     matches!(
         form_named(name),
         Some(Form::Instruction(Operation::Csr(_) | Operation::CsrImmediate(_), _, _, _))
     )
+}
+
+// Whether a statement has a CSR among its operands.
+fn names_csr(body: &[Token<'_>]) -> bool
+    ensures { result ≡ names_csr (tokens_in body.now) }
+{
+    match first_name(body) {
+        Some(name) => takes_csr(name),
+        None => false,
+    }
 }
 
 /// The name at fault in a statement.
@@ -75,21 +83,49 @@ fn aligns_to_power(name: &[u8]) -> bool
     name == b".align".as_slice() || name == b".p2align".as_slice()
 }
 
-// Appends the line on an unknown mnemonic that no other stands for.
+// Appends the line on an unknown mnemonic that no other stands for, which is so in small letters.
 #[tactic(auto, unfolding(crate::specs::Near::unfamiliar_line))]
 fn add_unfamiliar_line(
     alloc: Global,
     out: &mut Vec<u8>,
+    small: &[u8],
     name: &[u8],
     known: &[&[u8]],
 ) -> Result<(), AllocError>
     ensures { OnOk result (out.new.items
-        ≡ out.old.items ++ unfamiliar_line name.now (map (λ other. other.now) known.now)) }
+        ≡ out.old.items ++ unfamiliar_line small.now name.now (map (λ other. other.now) known.now)) }
 {
-    if foreign_hint(name).is_empty() {
+    if foreign_hint(small).is_empty() {
         return add_spelling_line(alloc, out, name, known);
     }
     Ok(())
+}
+
+// Appends the line on an unknown mnemonic, which is so in small letters.
+#[tactic(auto, unfolding(crate::specs::Near::small_line))]
+fn add_small_line(
+    alloc: Global,
+    out: &mut Vec<u8>,
+    small: &[u8],
+    name: &[u8],
+    known: &[&[u8]],
+) -> Result<(), AllocError>
+    ensures { OnOk result (out.new.items
+        ≡ out.old.items ++ small_line small.now name.now (map (λ other. other.now) known.now)) }
+{
+    if aligns_to_power(small) {
+        return add_text(
+            out,
+            b"nearest: .balign, in bytes: .balign 4 for .align 2, .balign 8 for .align 3\n",
+        );
+    }
+    if small == b".section".as_slice() {
+        return add_names_line(out, &[b".text", b".data"]);
+    }
+    match counterpart(small) {
+        Some(other) => add_names_line(out, &[other]),
+        None => add_unfamiliar_line(alloc, out, small, name, known),
+    }
 }
 
 // Appends the line on an unknown mnemonic.
@@ -103,19 +139,25 @@ fn add_mnemonic_line(
     ensures { OnOk result (out.new.items
         ≡ out.old.items ++ mnemonic_line name.now (map (λ other. other.now) known.now)) }
 {
-    if aligns_to_power(name) {
-        return add_text(
-            out,
-            b"nearest: .balign, in bytes: .balign 4 for .align 2, .balign 8 for .align 3\n",
-        );
+    let small = name.to_ascii_lowercase(alloc)?;
+    add_small_line(alloc, out, small.as_slice(), name, known)
+}
+
+// Appends the line on an unknown CSR.
+#[tactic(auto, unfolding(crate::specs::Near::csr_line))]
+fn add_csr_line(
+    alloc: Global,
+    out: &mut Vec<u8>,
+    name: &[u8],
+    known: &[&[u8]],
+) -> Result<(), AllocError>
+    ensures { OnOk result (out.new.items
+        ≡ out.old.items ++ csr_line name.now (map (λ other. other.now) known.now)) }
+{
+    if csr_hint(name).is_empty() {
+        return add_spelling_line(alloc, out, name, known);
     }
-    if name == b".section".as_slice() {
-        return add_names_line(out, &[b".text", b".data"]);
-    }
-    match counterpart(name) {
-        Some(other) => add_names_line(out, &[other]),
-        None => add_unfamiliar_line(alloc, out, name, known),
-    }
+    Ok(())
 }
 
 // Appends the line on an unknown name by those that may stand in its place, where these symbols are defined.
@@ -135,6 +177,7 @@ fn add_known(
     match fault {
         AsmFault::UnknownMnemonic => add_mnemonic_line(alloc, out, name, known.as_slice()),
         AsmFault::UnknownSymbol => add_nearest(alloc, out, name, known.as_slice()),
+        AsmFault::BadOperands => add_csr_line(alloc, out, name, known.as_slice()),
         _ => add_spelling_line(alloc, out, name, known.as_slice()),
     }
 }

@@ -3,6 +3,7 @@ mod capitals;
 mod expected;
 mod first_lines;
 mod foreign;
+mod habits;
 mod hints;
 mod lines;
 mod misplaced;
