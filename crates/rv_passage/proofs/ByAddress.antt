@@ -1,23 +1,19 @@
 -- The place of an address among what is kept in order, and the change there.
 use Rattle.std.proofs.Common.{◌≡◌, ◌∙◌, ℕ, zero, suc, ◌+◌, ◌<◌, ◌≤◌, ◌==◌, nat_lt, Bool, true, false, List, [], ◌∷◌}
-use Rattle.std.proofs.Common.{length, get_or, set, refl, ap, sym, subst, arith, eq-eqb, ne_eqb, inl, inr}
-use Rattle.std.proofs.Common.{Result, Ok, Err, IfOk, IfErr}
+use Rattle.std.proofs.Common.{length, get_or, set, refl, ap, sym, subst, arith, eq-eqb, Result, Ok, Err, IfOk, IfErr}
 use Rattle.std.specs.Prelude.{insert}
 use Rattle.std.specs.List.Sorted.{IsBinarySearchResult, IsNonDecreasingBy, IsSearchInRange}
 use Rattle.std.specs.Ordering.{nat_cmp, ordering_index}
 use Rattle.std.proofs.lemmas.Cmp.{ranked}
 use Rattle.std.proofs.lemmas.List.{set-get_or}
 use Rattle.std.proofs.lemmas.List.Edits.{get_or-insert_at}
-use Rattle.std.proofs.lemmas.Bool.{cases_Bool, eqb-true, eqb-false, le-ltb, lt-ltb, ltb-true, ltb-false}
+use Rattle.std.proofs.lemmas.Bool.{eqb-true, eqb-false, ltb-true, ltb-false}
 use Rattle.std.proofs.lemmas.Bool.Decides.{nat_tests}
 use Rattle.rv_passage.specs.ByAddress.{AreAbove, IsInOrder, IsPlaceFor, IsPlaceOf, with_change}
 
 -- no more than another number and not it
 below_other : (m n : ℕ) → m ≤ n → (m ≡ n → ⊥) → m < n
-below_other m n within other = elim (cases_Bool (nat_lt m n)) [
-  | inl below ↦ ltb-true m n below
-  | inr not_below ↦ let over = ltb-false m n not_below in absurd (other (omega (arith, within, over)))
-]
+below_other m n within other = grind arith
 
 -- what was put in at a place may be changed there
 set-insert : {X : Type 0} (xs : List X) (i : ℕ) (x y : X) → i ≤ length xs → set (insert xs i x) i y ≡ insert xs i y
@@ -152,19 +148,13 @@ module _ {X : Type 0} (address_of : X → ℕ) (nothing_at : ℕ → X) (address
       in_order-made old new order made = subst (IsInOrder address_of) (sym made) (in_order-change old order)
 
   lower : (x : X) (xs : List X) → address_of x < address → changed (x ∷ xs) ≡ x ∷ changed xs
-  lower x xs below = rw (
-    ne_eqb (address_of x) address (λ is. omega (arith, is, below)),
-    le-ltb address (address_of x) (omega (arith, below)),
-  ) refl
+  lower x xs below = grind arith
 
   here : (x : X) (xs : List X) → address_of x ≡ address → changed (x ∷ xs) ≡ change x ∷ xs
   here x xs is = rw (eq-eqb (address_of x) address is) refl
 
   higher : (x : X) (xs : List X) → address < address_of x → changed (x ∷ xs) ≡ change (nothing_at address) ∷ x ∷ xs
-  higher x xs above = rw (
-    ne_eqb (address_of x) address (λ is. omega (arith, is, above)),
-    lt-ltb address (address_of x) above,
-  ) refl
+  higher x xs above = grind arith
 
   change-there : (xs : List X) (i : ℕ) (d : X) → i < length xs →
       ((k : ℕ) (x : X) → k < i → address_of (get_or xs k x) < address) → address_of (get_or xs i d) ≡ address →
@@ -196,12 +186,7 @@ module _ {X : Type 0} (address_of : X → ℕ) (nothing_at : ℕ → X) (address
     -- a change of what is put in first is the change at its place
     pub change-made : IsPlaceFor address_of address place xs → (made : List X) →
         made ≡ insert xs place (nothing_at address) → (x : X) → changed xs ≡ set made place (change (get_or made place x))
-    change-made is made made_is x =
-        change-new xs place is.within is.before is.after
-        ∙ sym (set-insert xs place (nothing_at address) (change (nothing_at address)) is.within)
-        ∙ ap (λ y. set (insert xs place (nothing_at address)) place (change y))
-        (sym (get_or-insert_at xs place (nothing_at address) x is.within))
-        ∙ ap (λ ys. set ys place (change (get_or ys place x))) (sym made_is)
+    change-made is made made_is x = grind (arith, change-new, set-insert, set, get_or-insert_at)
 
 module _ {X : Type 0} (address_of : X → ℕ) (nothing_at : ℕ → X) (address : ℕ) (xs : List X) (place : ℕ) where
   -- what is there is not begun again

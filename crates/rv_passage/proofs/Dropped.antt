@@ -1,12 +1,11 @@
 -- Rows after those that are dropped, and those that are still in flight among them.
-use Rattle.std.proofs.Common.{◌≡◌, ◌∙◌, ℕ, suc, ◌+◌, ◌-◌, ◌≤◌, nat_lt, true, false, List, [], ◌∷◌, ◌++◌, length}
-use Rattle.std.proofs.Common.{filter, map, take, drop, None, Some, refl, ap, sym, arith, inl, inr, length-drop}
+use Rattle.std.proofs.Common.{◌≡◌, ◌∙◌, ℕ, suc, ◌+◌, ◌-◌, ◌≤◌, true, false, List, [], ◌∷◌, ◌++◌, length, filter, map}
+use Rattle.std.proofs.Common.{take, drop, None, refl, ap, sym, arith, inl, inr, length-drop}
 use Rattle.std.specs.List.{list_all, position, position_or_len}
 use Rattle.std.proofs.Math.Seq.{drop-append_seam, paste}
-use Rattle.std.proofs.lemmas.Bool.{cases_Bool, ltb-false}
+use Rattle.std.proofs.lemmas.Bool.{cases_Bool}
 use Rattle.std.proofs.lemmas.List.{take_all}
 use Rattle.std.proofs.lemmas.List.Edits.{take-paste}
-use Rattle.std.proofs.lemmas.Option.{none-some}
 use Rattle.rv_front.specs.FetchBuffer.{FetchBuffer}
 use Rattle.rv_front.specs.declared.fetched.Fetched.{Fetched}
 use Rattle.rv_rob.specs.ReorderBuffer.{ReorderBuffer}
@@ -50,11 +49,7 @@ first-within (p ∷ ps) = elim (cases_Bool (is_in_flight p)) [
 -- where none is in flight, all come before the first that is
 pub none_in_flight : (rows : List Passage) → position is_in_flight rows ≡ None →
     position_or_len is_in_flight rows ≡ length rows
-none_in_flight rows none = elim (cases_Bool (nat_lt (position_or_len is_in_flight rows) (length rows))) [
-  | inl here ↦ let some : Some (position_or_len is_in_flight rows) ≡ None = rw here at none in
-      absurd (none-some _ (sym some))
-  | inr past ↦ omega (arith, ltb-false _ _ past, first-within rows)
-]
+none_in_flight rows none = grind (arith, first-within)
 
 -- where all are in flight, none is left out
 pub open-all : (rows : List Passage) → list_all is_in_flight rows ≡ true → filter is_in_flight rows ≡ rows

@@ -1,6 +1,6 @@
 -- A run that ended by its limit and went on, and one that ended before it.
-use Rattle.std.proofs.Common.{◌≡◌, ◌∙◌, ℕ, ◌+◌, ◌≤◌, ◌≢◌, List, [], ◌∷◌, ◌++◌, length}
-use Rattle.std.proofs.Common.{refl, ap, sym, subst, arith, append_assoc, length-append}
+use Rattle.std.proofs.Common.{◌≡◌, ◌∙◌, ℕ, ◌+◌, ◌≤◌, ◌≢◌, List, [], ◌∷◌, ◌++◌, length, refl, ap, sym, subst, arith}
+use Rattle.std.proofs.Common.{append_assoc, length-append}
 use Rattle.rv_isa.specs.declared.lines.Arrival.{Arrival}
 use Rattle.rv_arch.specs.declared.outcome.Stop.{Stop}
 use Rattle.rv_arch.specs.declared.outcome.Stop.TheVariants as stop
@@ -81,10 +81,7 @@ run_on {from = from} {limit = limit} {new = new} {some = some} {more = more} {re
 
 stops_earlier : (limit more : ℕ) (reports : List Report) (new : Hardware) (reason : Stop) → reason ≢ stop.Limit →
     IsStop limit reports new reason → IsStop (limit + more) reports new reason
-stops_earlier limit more reports new stop.Limit other stops = absurd (other refl)
-stops_earlier limit more reports new stop.Breakpoint other stops = (stops.0, omega (arith, stops.1))
-stops_earlier limit more reports new (stop.Stale pc) other stops = (stops.0, omega (arith, stops.1))
-stops_earlier limit more reports new stop.Exhausted other stops = (stops.0, omega (arith, stops.1), stops.2)
+stops_earlier limit more reports new reason other stops = grind arith
 
 -- a run that ended before its limit is one with a greater limit
 pub run_earlier : {arrivals : List Arrival} {limit : ℕ} {old new : GuidedHardware} {moments : List
@@ -100,7 +97,4 @@ run_earlier {limit = limit} {new = new} {moments = moments} {reason = reason} mo
 -- a run has no more cycles than its limit
 pub length-run : (limit : ℕ) (reports : List Report) (new : Hardware) (reason : Stop) →
     IsStop limit reports new reason → length reports ≤ limit
-length-run limit reports new stop.Limit stops = omega (arith, stops.1)
-length-run limit reports new stop.Breakpoint stops = omega (arith, stops.1)
-length-run limit reports new (stop.Stale pc) stops = omega (arith, stops.1)
-length-run limit reports new stop.Exhausted stops = omega (arith, stops.1)
+length-run limit reports new reason stops = grind arith

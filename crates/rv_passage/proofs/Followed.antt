@@ -1,6 +1,5 @@
 -- A table that follows a run: no cycle yet, and one cycle more.
-use Rattle.std.proofs.Common.{◌≡◌, ◌∙◌, ℕ, ◌+◌, ◌^◌, ◌<◌, ◌≤◌, List, [], ◌∷◌}
-use Rattle.std.proofs.Common.{◌++◌, length, vec_capacity, ap, sym, subst, arith}
+use Rattle.std.proofs.Common.{◌≡◌, ◌∙◌, ℕ, ◌+◌, ◌^◌, ◌<◌, ◌≤◌, List, [], ◌∷◌, ◌++◌, length, vec_capacity, ap, arith}
 use Rattle.std.specs.Prelude.{IfOk, Result, Ok, Err}
 use Rattle.rv_isa.specs.declared.lines.Arrival.{Arrival}
 use Rattle.rv_hardware.specs.Guided.{GuidedHardware}
@@ -9,7 +8,7 @@ use Rattle.rv_hardware.specs.History.{History, Moment}
 use Rattle.rv_hardware.specs.declared.step.Step.{Step}
 use Rattle.rv_passage.specs.Followed.{HasFollowed, HasOpen, IsRoomy}
 use Rattle.rv_passage.specs.Passage.{in_flight}
-use Rattle.rv_passage.specs.Table.{CanCount, Passages, after_cycle, numbered_from, passages_of, still_open, table_at}
+use Rattle.rv_passage.specs.Table.{CanCount, Passages, after_cycle, passages_of, still_open, table_at}
 use Rattle.rv_passage.specs.declared.table.Table.{Table}
 use Rattle.rv_passage.proofs.Moving.{length-numbered_from, steps-within}
 use Rattle.rv_passage.proofs.Walk.{last_cycle, passages_after-push}
@@ -23,22 +22,13 @@ if_ok_by (Err error) then fact = tt
 pub followed_nothing : (keep : Passages → Passages) (h : Hardware) (table : Passages) → table ≡ table_at h →
     length table.rows ≤ 288 →
     HasFollowed keep h [] h table
-followed_nothing keep h table is few =
-    let here : length (numbered_from 0 (in_flight h)) ≤ 288 = subst (λ (t : Passages). length t.rows ≤ 288) is few in
-    record {
-      passages = is;
-      fetched = omega (arith, ap (λ (t : Passages). t.fetched) is, length-numbered_from 0 (in_flight h), here);
-      retired = omega (arith, ap (λ (t : Passages). t.retired) is);
-    }
+followed_nothing keep h table is few = grind (arith, in_flight, length-numbered_from)
 
 -- the counts of the table can go on
 pub can_count : {keep : Passages → Passages} {first now : Hardware} {moments : List Moment} {table : Passages} →
     HasFollowed keep first moments now table →
     now.cycle < 2 ^ 40 → CanCount table
-can_count followed counted = record {
-  fetched = omega (arith, followed.fetched, counted);
-  retired = omega (arith, followed.retired, counted);
-}
+can_count followed counted = grind arith
 
 -- one more cycle, of which the table takes the steps
 module _ {keep : Passages → Passages} {arrivals : List Arrival} {first now : GuidedHardware}
@@ -55,25 +45,14 @@ module _ {keep : Passages → Passages} {arrivals : List Arrival} {first now : G
   pub followed_on : last.after.cycle ≡ now.hardware.cycle + 1 → (kept : Passages) → kept ≡ keep full →
       kept.fetched ≤ table.fetched + 288 → kept.retired ≤ table.retired + 8
       → HasFollowed keep first.hardware (moments ++ last ∷ []) last.after kept
-  followed_on one_more kept kept_is fetched retired = record {
-    passages = kept_is ∙ ap keep full_is ∙ sym (passages_after-push keep passes last);
-    fetched = omega (arith, followed.fetched, fetched, one_more);
-    retired = omega (arith, followed.retired, retired, one_more);
-  }
+  followed_on one_more kept kept_is fetched retired = grind (arith, full_is, passages_after-push)
 
 -- ---- a table that forgets what left the hardware
 
 pub roomy_again : (table : Table) (full : Passages) → passages_of table ≡ still_open full →
     length (still_open full).rows ≤ 288 → 576 ≤ vec_capacity table.rows
     → 8 ≤ vec_capacity table.interrupts → IsRoomy table
-roomy_again table full opened few rows interrupts = record {
-  room = record {
-    rows = omega (arith, ap (λ (t : Passages). length t.rows) opened, few, rows);
-    interrupts = omega (arith, ap (λ (t : Passages). length t.interrupts) opened, interrupts);
-  };
-  rows = rows;
-  interrupts = interrupts;
-}
+roomy_again table full opened few rows interrupts = grind arith
 
 -- before the first cycle a table of the hardware, roomy and with few rows, has what is in flight
 pub open_nothing : (h : Hardware) (table : Table) → passages_of table ≡ table_at h → IsRoomy table →
@@ -89,17 +68,7 @@ module _ {first now : Hardware} {moments : List Moment} {table : Table} (so_far 
   pub few_rows : (cycle : ℕ) (steps : List Step) (after : Hardware) (full : Table) →
       passages_of full ≡ after_cycle cycle steps after (passages_of table)
       → full.fetched ≤ table.fetched + 288 → length (passages_of full).rows ≤ 576
-  few_rows cycle steps after full takes more =
-      let same = steps-within steps after.pc (passages_of table) in
-      omega (
-        arith,
-        ap (λ (t : Passages). t.fetched) takes,
-        ap (λ (t : Passages). length t.rows) takes,
-        same.rows,
-        same.fetched,
-        so_far.few,
-        more,
-      )
+  few_rows cycle steps after full takes more = grind (arith, steps-within)
 
 -- one more cycle
 module _ {arrivals : List Arrival} {first now : GuidedHardware} {moments : List Moment} {table : Table}

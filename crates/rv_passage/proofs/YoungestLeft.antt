@@ -1,6 +1,6 @@
 -- The instructions up to the youngest that left the hardware, from the youngest of all on.
-use Rattle.std.proofs.Common.{◌≡◌, ◌∙◌, ℕ, zero, suc, ◌+◌, ◌-◌, ◌<◌, ◌≤◌, true, false, List, [], ◌∷◌, ◌++◌, length}
-use Rattle.std.proofs.Common.{take, get_or, Some, MatchOption, refl, sym, ap, subst, arith, append_assoc, append-nil}
+use Rattle.std.proofs.Common.{◌≡◌, ◌∙◌, ℕ, zero, suc, ◌-◌, ◌<◌, ◌≤◌, true, false, List, [], ◌∷◌, ◌++◌, length, take}
+use Rattle.std.proofs.Common.{get_or, Some, MatchOption, refl, sym, ap, subst, arith, append_assoc, append-nil}
 use Rattle.std.specs.List.{AllPass, slice_get}
 use Rattle.std.proofs.lemmas.List.{length_push, take_all, take_more}
 use Rattle.std.proofs.lemmas.List.Elements.{All-append}
@@ -30,13 +30,7 @@ none_after rows = record {
 }
 
 pub none_left : (rows left : List Passage) → left ≡ [] → AreInFlightAfter rows left → IsUpToYoungestLeft rows left
-none_left rows left none after = record {
-  others = after.others;
-  rows_are = after.rows_are;
-  in_flight = after.in_flight;
-  youngest = subst (λ l. MatchOption (slice_get l (length l - 1)) (l ≡ []) (λ p. is_in_flight p
-      ≡ false)) (sym none) refl;
-}
+none_left rows left none after = grind arith
 
 module _ (rows left before : List Passage) (p : Passage) (last : left ≡ before ++ p ∷ [])
     (after : AreInFlightAfter rows left) where
@@ -64,11 +58,7 @@ module _ (rows left before : List Passage) (p : Passage) (last : left ≡ before
 module _ (rows : List Passage) (count : ℕ) (p : Passage) (some : 0 < count) (within : count ≤ length rows)
     (read : p ≡ get_or rows (count - 1) p) (after : AreInFlightAfter rows (take count rows)) where
   last_taken : take count rows ≡ take (count - 1) rows ++ p ∷ []
-  last_taken =
-      let one_more : count ≡ count - 1 + 1 = omega (arith, some) in
-      ap (λ n. take n rows) one_more
-      ∙ take_more rows (count - 1) p (omega (arith, some, within))
-      ∙ ap (λ q. take (count - 1) rows ++ q ∷ []) (sym read)
+  last_taken = grind (arith, take_more)
 
   pub flying_before : is_in_flight p ≡ true → AreInFlightAfter rows (take (count - 1) rows)
   flying_before flies = one_more_after rows (take count rows) (take (count - 1) rows) p last_taken after flies

@@ -6,20 +6,7 @@ use Rattle.rv_passage.proofs.Dropped.{first-within, open-after_first}
 use Rattle.rv_passage.proofs.table.Table.drop_first_ended.Goals as goal
 
 pub overflow_add-self : goal.overflow_add-self
-overflow_add-self c =
-    let all = c.args.self.now in
-    let kept = drop all.dropped all.rows.items in
-    let first = c.count_first_ended.ensures ∙ ap (position_or_len is_in_flight) c.rows.ensures in
-    omega (
-      arith,
-      first,
-      first-within kept,
-      length-drop all.dropped all.rows.items,
-      all.within,
-      all.rows.ok.0,
-      all.rows.ok.1,
-      all.rows.small,
-    )
+overflow_add-self c = grind (arith, first-within)
 
 pub invariant_of-self : goal.invariant_of-self
 invariant_of-self c =

@@ -1,6 +1,6 @@
-use Rattle.std.proofs.Common.{◌≡◌, ◌∙◌, [], ℕ, Vec, Global, filter, length, vec_capacity, ap, arith}
+use Rattle.std.proofs.Common.{◌≡◌, [], filter, length, ap, arith}
 use Rattle.rv_passage.specs.Passage.{in_buffers, is_in_flight}
-use Rattle.rv_passage.specs.Table.{Passages, after_steps, passages_of, with_steps}
+use Rattle.rv_passage.specs.Table.{Passages, passages_of, with_steps}
 use Rattle.rv_passage.proofs.Dropped.{buffers-open}
 use Rattle.rv_passage.proofs.MovesOn.{as_many-moves, moves_on}
 use Rattle.rv_passage.proofs.table.Table.follow_as.Goals as goal
@@ -23,15 +23,4 @@ pub returns-clause-counted : goal.returns-clause-counted
 returns-clause-counted c = counted c.before
 
 pub returns-clause-followed : goal.returns-clause-followed
-returns-clause-followed c =
-    let on = c.follow_in_space.ensures in
-    let space = c.clear_space.ensures in
-    let after = after_steps c.args.cycle c.args.steps.now c.args.rob.now c.args.front.now c.args.pc in
-    record {
-      followed = on.followed ∙ ap after space.same;
-      rows = on.rows ∙ space.capacity;
-      interrupts = on.interrupts ∙ ap (λ (v : Vec ℕ Global). vec_capacity v) space.interrupts;
-      fetched = omega (arith, on.fetched, ap (λ (t : Passages). t.fetched) space.same);
-      retired = omega (arith, on.retired, ap (λ (t : Passages). t.retired) space.same);
-      few = on.few;
-    }
+returns-clause-followed c = grind arith

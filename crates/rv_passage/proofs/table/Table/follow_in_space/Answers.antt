@@ -9,11 +9,7 @@ pub append_fetched-requires-clause-room : goal.append_fetched-requires-clause-ro
 append_fetched-requires-clause-room c = omega arith
 
 pub append_fetched-requires-clause-countable : goal.append_fetched-requires-clause-countable
-append_fetched-requires-clause-countable c =
-    let within = steps-within c.args.steps.now c.args.pc (passages_of c.args.self.now) in
-    let taken = ap (λ (t : Passages). t.fetched) c.take_steps.ensures.taken in
-    let moved = ap (λ (t : Passages). t.fetched) c.move_rows_on-fetched.ensures.others in
-    omega (arith, within.fetched, taken, moved)
+append_fetched-requires-clause-countable c = grind (arith, steps-within)
 
 pub returns : goal.returns
 returns c =

@@ -38,14 +38,4 @@ pub returns-clause-counted : goal.returns-clause-counted
 returns-clause-counted c = counted c.before
 
 pub returns-clause-followed : goal.returns-clause-followed
-returns-clause-followed c =
-    let on = c.renew_numbers.ensures in
-    record {
-      followed = on.followed;
-      rows = on.rows;
-      interrupts = on.interrupts;
-      fetched = on.fetched;
-      retired = on.retired;
-      few = on.few;
-      quiet = on.quiet;
-    }
+returns-clause-followed c = grind arith

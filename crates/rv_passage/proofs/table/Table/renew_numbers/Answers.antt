@@ -1,10 +1,10 @@
-use Rattle.std.proofs.Common.{◌∙◌, ℕ, List, Vec, Global, drop, filter, length, take}
-use Rattle.std.proofs.Common.{vec_capacity, ap, arith, length-append, length-drop, length-take}
+use Rattle.std.proofs.Common.{◌∙◌, ℕ, List, Vec, Global, drop, filter, length, take, vec_capacity, ap, arith}
+use Rattle.std.proofs.Common.{length-append, length-drop, length-take}
 use Rattle.std.proofs.lemmas.List.Sums.{count_by-le-length, length-filter}
 use Rattle.rv_passage.specs.Numbers.{kept_through, numbers_of}
 use Rattle.rv_passage.specs.Passage.{in_buffers, is_in_flight}
-use Rattle.rv_passage.specs.Table.{Passages, numbered_from, passages_of}
-use Rattle.rv_passage.specs.Table.{still_open, with_fetched, with_rows, with_steps}
+use Rattle.rv_passage.specs.Table.{Passages, numbered_from, passages_of, still_open, with_fetched, with_rows}
+use Rattle.rv_passage.specs.Table.{with_steps}
 use Rattle.rv_passage.specs.declared.passage.Passage.{Passage}
 use Rattle.rv_passage.proofs.Moving.{length-numbered_from, steps-within}
 use Rattle.rv_passage.proofs.Numbers.{kept-few, numbers_kept}
@@ -20,9 +20,7 @@ clear_space-requires c =
     omega (arith, within.rows, rows, length-filter is_in_flight ended.rows, few, c.requires.room.rows)
 
 pub keep-requires : goal.keep-requires
-keep-requires c =
-    let few = kept-few c.args.cycle (in_buffers c.args.rob.now c.args.front.now) (length c.rows.result.now) in
-    omega (arith, few.0, c.count_kept-kept.ensures, ap length c.rows.ensures)
+keep-requires c = grind (arith, kept-few)
 
 pub append_fetched-requires-clause-countable : goal.append_fetched-requires-clause-countable
 append_fetched-requires-clause-countable c =
