@@ -1,9 +1,8 @@
 -- A run whose steps are counted: what was counted so far, one cycle more, and the end.
-use Rattle.rv_core.proofs.Words.{◌≡◌, ℕ, ◌+◌, ◌*◌, ◌^◌, ◌<◌, ◌≤◌, List, [], ◌∷◌, ◌++◌}
-use Rattle.rv_core.proofs.Words.{length, Some, None, Option, Ok, sym, refl, ◌∙◌, subst}
-use Rattle.rv_core.proofs.Words.{arith, count_by-le-length, Arrival, Stop, Hardware, IsStop}
-use Rattle.rv_core.proofs.Words.{steps_of, Guide, GuidedHardware, guided, reports_of, Step}
-use Rattle.rv_core.proofs.Words.{IsWatchedRun, Watched, Progress, progress_of}
+use Rattle.rv_core.proofs.Words.{◌≡◌, ℕ, ◌+◌, ◌^◌, ◌<◌, ◌≤◌, List, [], ◌∷◌, ◌++◌, length, Some, None, Option, Ok, sym}
+use Rattle.rv_core.proofs.Words.{refl, ◌∙◌, subst, arith, count_by-le-length, Arrival, Stop, Hardware, IsStop, steps_of}
+use Rattle.rv_core.proofs.Words.{Guide, GuidedHardware, guided, reports_of, Step, IsWatchedRun, Watched, Progress}
+use Rattle.rv_core.proofs.Words.{progress_of}
 use Rattle.std.specs.Prelude.{Bool, cond, count_by}
 use Rattle.std.proofs.lemmas.List.Sums.{sum_by-cons}
 use Rattle.rv_hardware.specs.Step.{is_interrupt, is_retirement, is_trap}
@@ -12,8 +11,8 @@ use Rattle.rv_core.specs.Counted.{AreCounts, IsCountedRun}
 use Rattle.rv_core.specs.Steps.{HasRoom, Takes}
 use Rattle.rv_core.specs.declared.counting.Counted.{Counted}
 use Rattle.rv_core.specs.declared.steps.Steps.{Steps}
-use Rattle.rv_watch.proofs.Shown.{IsWatching, moments_counted, shown_steps-push, watched_to}
-use Rattle.rv_watch.proofs.Shown.{watched_to_stop, watching_nothing, watching_on}
+use Rattle.rv_watch.proofs.Shown.{IsWatching, moments_counted, shown_steps-push, watched_to, watched_to_stop}
+use Rattle.rv_watch.proofs.Shown.{watching_nothing, watching_on}
 use Rattle.rv_core.proofs.RunCycles.{next_reported}
 use Rattle.rv_core.proofs.Taken.{takes_more, takes_none}
 use Rattle.rv_core.specs.Taking.{TakesNextCycle}
@@ -98,15 +97,7 @@ module _ (arrivals : List Arrival) (old : GuidedHardware) where
 
     -- the steps of one more cycle can be counted
     pub room_to_count : now.hardware.cycle < 2 ^ 40 → HasRoom steps 8
-    room_to_count within =
-        let so_far = steps_of (reports_of counting.moments) in
-        let few : length so_far ≤ 8 * 2 ^ 40 = omega (arith, counting.few, moments_counted counting.passes, within) in
-        record {
-          count = omega (arith, taken_so_far.count, few);
-          traps = omega (arith, taken_so_far.traps, few, count_by-le-length is_trap so_far);
-          interrupts = omega (arith, taken_so_far.interrupts, few, count_by-le-length is_interrupt so_far);
-          lists = λ is. absurd (cc (taken_so_far.kept, is));
-        }
+    room_to_count within = grind (arith, moments_counted, taken_so_far, count_by-le-length)
 
     -- no more traps and interrupts are counted than steps
     pub sorts_fit : steps.traps + steps.interrupts ≤ steps.count

@@ -1,15 +1,13 @@
 -- What the execution of an instruction leaves is what the definition's start of it leaves.
 use Rattle.rv_core.proofs.Words.{◌≡◌, ℕ, ◌+◌, ◌^◌, ◌≤◌, Bool, true, List, [], ◌∷◌, map, length, is_some, Some, None}
 use Rattle.rv_core.proofs.Words.{All, Option, option_and_then, sym, refl, ap, ◌∙◌, subst, arith, is_store, kind_of_word}
-use Rattle.rv_core.proofs.Words.{sources_of, bytes_of, width_of, at_kind, with_kind, modulo_word, sum, Message, Instr}
-use Rattle.rv_core.proofs.Words.{Load, Issue, Kind, PerKind, CacheValues, instruction_of, Memory, State, register_of}
-use Rattle.rv_core.proofs.Words.{Contents, access_cost, cost_of_access, CacheLine, UnitPool, started, changed, Entry}
-use Rattle.rv_core.proofs.Words.{Hardware, bytes_after, FromCache, Path, cost_of, issued, path, path_of_word}
-use Rattle.rv_core.proofs.Words.{with_start, result_in, result_of_word, layout_of, state_after, stores_after}
+use Rattle.rv_core.proofs.Words.{sources_of, bytes_of, at_kind, with_kind, Message, Instr, Issue, Kind, PerKind}
+use Rattle.rv_core.proofs.Words.{CacheValues, instruction_of, Memory, State, Contents, cost_of_access, CacheLine}
+use Rattle.rv_core.proofs.Words.{UnitPool, started, changed, Entry, Hardware, bytes_after, Path, issued, path}
+use Rattle.rv_core.proofs.Words.{path_of_word, result_in, result_of_word, layout_of, state_after, stores_after}
 use Rattle.rv_core.proofs.Words.{IsLegalCost, kind_of, Queue, older_than, Pool, taken_from, Ready, Pending}
-use Rattle.rv_core.proofs.Words.{started_unit, Renaming, path_of_load, IsAfter, LieIn, cache_after, load_path}
-use Rattle.rv_core.proofs.Words.{path_cost, port_after, operand_value, IsDescribedCache, IsLegalWrite, IsSoundEntry}
-use Rattle.rv_core.proofs.Words.{IsSoundHardware, AreTied}
+use Rattle.rv_core.proofs.Words.{started_unit, Renaming, IsAfter, LieIn, cache_after, load_path, path_cost, port_after}
+use Rattle.rv_core.proofs.Words.{operand_value, IsDescribedCache, IsLegalWrite, IsSoundEntry, IsSoundHardware, AreTied}
 use Rattle.rv_units.specs.Bus.{with_result}
 use Rattle.rv_core.specs.Access.{IsExecuted, path_of_ready}
 use Rattle.rv_core.proofs.Issued.Found.{Leaving, test_of}
@@ -23,12 +21,7 @@ use Rattle.rv_core.proofs.Loads.Path.{access_is_defined, cost_is_defined, path_i
 load_path_defined : (h : Hardware) (older : List Entry) (s : State) (i : Instr) (first second : ℕ) →
     map (operand_value s) (sources_of i) ≡ first ∷ second ∷ [] →
     load_path (layout_of h.values) (stores_after h older) first i ≡ path_of_word h older s (Some i)
-load_path_defined h older s (Load form rd rs1 offset) first second reads =
-    let count = bytes_of (width_of form) in
-    let same : register_of s rs1 ≡ first = cc in
-    path_is_defined h older (sum first (modulo_word offset)) count
-    ∙ ap (λ r. path_of_load h older (sum r (modulo_word offset)) count) (sym same)
-load_path_defined h older s i first second reads = refl
+load_path_defined h older s i first second reads = grind (arith, older, bytes_of, path_is_defined)
 
 word_decoded : (word : Option ℕ) (i : Instr) → option_and_then instruction_of word ≡ Some i → (w : ℕ) × (word ≡ Some w)
 word_decoded None i is = absurd (cc)
@@ -53,21 +46,11 @@ pub record Execution (h : Hardware) (kind : Kind) (queue : Queue) (ready : Ready
 
 module _ {h : Hardware} (sound : IsSoundHardware h) where
   port_bound : (p : Path) → port_after h.cycle h.port_free h.cache p ≤ 2 ^ 43
-  port_bound (FromCache address) =
-      let legal : IsLegalCost h.cache.values = subst IsLegalCost (sym sound.cache.values) sound.legal.cache.1 in
-      let cost : access_cost h.cache address ≤ 2016 = cost_bound h.cache.values legal _ _ in
-      omega (arith, cost, sound.cycles)
-  port_bound _ = sound.port
+  port_bound p = grind (arith, cost_bound)
 
   -- what an access keeps of the cache
   keeps : (p : Path) → IsDescribedCache h.values (cache_after h.cache p)
-  keeps (FromCache address) = record {
-    base = sound.cache.base;
-    values = sound.cache.values;
-    bytes = sound.cache.bytes;
-    layout = sound.cache.layout;
-  }
-  keeps _ = sound.cache
+  keeps p = grind arith
 
   module _ {kind : Kind} {ready : Ready} (leaving : Leaving h kind ready) {queue : Queue}
       (x : Execution h kind queue ready)
@@ -86,17 +69,11 @@ module _ {h : Hardware} (sound : IsSoundHardware h) where
     place = h.rob.retired + length before
 
     older : older_than ready.seq queue.stores ≡ stores_after h before
-    older =
-        (λ j. older_than (leaving.number j) (queued j))
-        ∙ ap (λ es. older_than place (stores_after h es)) leaving.split
-        ∙ older_than-stores_after h sound.stores.older before (entry ∷ leaving.rest)
+    older = grind (arith, older_than-stores_after)
 
     -- the path in the code's words
     path_taken : path_of_ready h.cache queue ready ≡ path h before entry
-    path_taken =
-        (λ j. load_path (sound.cache.layout j) (older j) ready.first ready.instruction)
-        ∙ load_path_defined h before s ready.instruction ready.first ready.second leaving.operands.values
-        ∙ ap (path_of_word h before s) (sym leaving.decoded)
+    path_taken = grind (arith, load_path, older, load_path_defined)
 
     after : IsAfter h.cache (older_than ready.seq queue.stores) s
     after = record {
@@ -146,21 +123,7 @@ module _ {h : Hardware} (sound : IsSoundHardware h) where
 
     -- the parts that have started it stand for the hardware that has issued it
     pub is_issued : started_hardware ≡ issued kind h before entry
-    is_issued =
-        let p = path h before entry in
-        let same_cost : x.cost ≡ cost_of h kind p =
-        x.costs ∙ ap (path_cost (at_kind kind h.values.kinds).latency h.values.forward h.cache) path_taken
-        ∙ cost_is_defined h kind p in
-        let same_port = x.ports ∙ ap (port_after h.cycle h.port_free h.cache) path_taken in
-        let same_cache = x.caches ∙ ap (cache_after h.cache) path_taken in
-        (λ j. record h {
-          cache = same_cache j;
-          port_free = same_port j;
-          units = with_kind kind (started_unit (same_cost j) h.cycle (at_kind kind h.units)) h.units;
-          rob = changed (started (record { cycle = h.cycle; cost = same_cost j }) (result j)) (leaving.number j) h.rob;
-        })
-        ∙ ap (with_start kind place (cost_of h kind p)
-        (result_of_word (layout_of h.values) s h.lines entry.word entry.instruction)) (access_is_defined h p)
+    is_issued = grind (arith, path_taken, cost_is_defined, changed, started, result, word, access_is_defined)
 
     -- which is sound
     pub is_sound : IsSoundHardware started_hardware

@@ -1,6 +1,6 @@
 -- The operands in a station are what the definition reads after the older instructions.
-use Rattle.rv_core.proofs.Words.{◌≡◌, ℕ, ◌+◌, ◌<◌, cond, ◌≢◌, List, [], ◌∷◌, map, length, IfSome, slice_index}
-use Rattle.rv_core.proofs.Words.{slice_index_or, Some, None, All, Option, sym, refl, ap, ◌∙◌, arith, get_or-set_other}
+use Rattle.rv_core.proofs.Words.{◌≡◌, ℕ, ◌+◌, ◌<◌, cond, ◌≢◌, List, [], ◌∷◌, length, IfSome, slice_index}
+use Rattle.rv_core.proofs.Words.{slice_index_or, Some, None, All, Option, refl, ◌∙◌, arith, get_or-set_other}
 use Rattle.rv_core.proofs.Words.{get_or-set_same, eqb-true, ne_eqb, eqb-false, All-head, All-tail, is_target}
 use Rattle.rv_core.proofs.Words.{target_of_word, sources_of, target_of, Message, Instr, Csr, Lui, State, Entry}
 use Rattle.rv_core.proofs.Words.{broadcast_of, is_known_from, registers_after, with_value, has_operands, has_value}
@@ -92,18 +92,7 @@ ready_parts w a b ready is = (grind arith, grind arith, grind arith, grind arith
 pub reads : (status : RegisterStatus) (seq pc : ℕ) (i : Instr) (s : State) (ready : Ready) →
     ready_of (waiting_of status seq pc i) ≡ Some ready → ShowsRegisters status s.registers → s.pc ≡ pc →
     Reads s ready.pc ready.first ready.second i
-reads status seq pc i s ready is shows at =
-    let w = waiting_of status seq pc i in
-    let parts = ready_parts w w.first w.second ready is in
-    let a = slice_index_or (sources_of i) 0 None in
-    let b = slice_index_or (sources_of i) 1 None in
-    record {
-      pc = at ∙ sym parts.3;
-      values = ap (map (operand_value s)) (two_sources i)
-          ∙ (λ k. operand_value-shown status s a ready.first shows parts.0 k ∷ operand_value-shown status s b
-          ready.second shows
-          parts.1 k ∷ []);
-    }
+reads status seq pc i s ready is shows at = grind (arith, ready_parts, two_sources, operand_value-shown)
 
 -- a station is ready where the definition has the operands of its instruction
 pub is_ready-known : (status : RegisterStatus) (older : List Entry) (seq pc : ℕ) (i : Instr) →

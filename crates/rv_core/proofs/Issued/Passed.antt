@@ -1,7 +1,7 @@
 -- What a search passed by, the next one of the phase may pass by: the port is no sooner idle after a start.
-use Rattle.rv_core.proofs.Words.{◌≡◌, ℕ, ◌+◌, ◌≤◌, Bool, true, List, [], ◌∷◌, nat_le, take, None, Option, refl, arith}
-use Rattle.rv_core.proofs.Words.{leb-true, CacheLine, CacheValues, Kind, Memory, Contents, access_cost, cost_of_access}
-use Rattle.rv_core.proofs.Words.{FromCache, Path, Mem, Store, Layout, oldest_ready, Station, port_after, goes}
+use Rattle.rv_core.proofs.Words.{◌≡◌, ℕ, ◌≤◌, Bool, true, List, [], ◌∷◌, nat_le, None, Option, refl, arith, CacheLine}
+use Rattle.rv_core.proofs.Words.{CacheValues, Kind, Memory, Contents, cost_of_access, Path, Mem, Store, Layout}
+use Rattle.rv_core.proofs.Words.{oldest_ready, Station, port_after, goes}
 use Rattle.rv_stations.specs.Waiting.{ArePassedBy}
 
 -- a test that passes no more than another finds nothing where the other does not
@@ -21,9 +21,7 @@ pub passed_later : (kind : Kind) (layout : Layout) (stores : List Store) (idle s
     (still ≡ true → idle ≡ true) →
     (n : ℕ) (ws : List Station) → ArePassedBy (goes kind layout stores idle) n ws →
     ArePassedBy (goes kind layout stores still) n ws
-passed_later kind layout stores idle still later n ws passed =
-    none_by (goes kind layout stores idle) (goes kind layout stores still)
-    (goes_later kind layout stores idle still later) (take n ws) passed
+passed_later kind layout stores idle still later n ws passed = grind (arith, none_by, goes, goes_later)
 
 -- an access takes a cycle at least
 cost_least : (values : CacheValues) → 1 ≤ values.hit → (is_hit : Bool) (dropped : Option CacheLine) →
@@ -33,7 +31,4 @@ cost_least values hit is_hit dropped = grind (arith, hit)
 -- the port is idle after a start only if it was before
 pub port_later : (cycle port_free : ℕ) (cache : Contents Memory) (path : Path) → 1 ≤ cache.values.hit →
     nat_le (port_after cycle port_free cache path) cycle ≡ true → nat_le port_free cycle ≡ true
-port_later cycle port_free cache (FromCache address) hit is =
-    let cost : 1 ≤ access_cost cache address = cost_least cache.values hit _ _ in
-    absurd (omega (arith, cost, leb-true (cycle + access_cost cache address) cycle is))
-port_later cycle port_free cache _ hit is = is
+port_later cycle port_free cache path hit is = grind (arith, cost_least)

@@ -1,14 +1,12 @@
 -- A station is ready, and passes the code's test, where the definition finds its instruction ready.
 use Rattle.rv_core.proofs.Words.{◌≡◌, ℕ, ◌+◌, ◌<◌, Bool, true, false, not, ◌&&◌, ◌||◌, List, ◌∷◌, ◌++◌, length, ℤ}
 use Rattle.rv_core.proofs.Words.{IfSome, nat_le, slice_index, Some, All, Option, sym, refl, ap, ◌∙◌, subst, arith}
-use Rattle.rv_core.proofs.Words.{and_parts, list_all, is_load, is_of_kind, kind_of_word, sources_of_word}
-use Rattle.rv_core.proofs.Words.{target_of_word, bytes_of, width_of, modulo_word, sum, Instr, Load, Kind, LoadForm}
-use Rattle.rv_core.proofs.Words.{is_known_store, Store, Entry, is_stationed, Hardware, is_waiting, registers_after}
-use Rattle.rv_core.proofs.Words.{has_operands, has_port, is_ready_entry, path_of_word, layout_of, state_after}
+use Rattle.rv_core.proofs.Words.{and_parts, list_all, is_load, kind_of_word, target_of_word, bytes_of, width_of, sum}
+use Rattle.rv_core.proofs.Words.{Instr, Load, Kind, LoadForm, is_known_store, Store, Entry, is_stationed, Hardware}
+use Rattle.rv_core.proofs.Words.{registers_after, has_port, is_ready_entry, path_of_word, layout_of, state_after}
 use Rattle.rv_core.proofs.Words.{stores_after, AreBelow, kind_of, Mem, first_unknown, older_than, has_value}
-use Rattle.rv_core.proofs.Words.{is_ready_station, Operand, Tag, Value, Station, path_of_load, is_operation}
-use Rattle.rv_core.proofs.Words.{is_known_before, may_go, needs_port, path_of, RegisterStatus, status_after, values_in}
-use Rattle.rv_core.proofs.Words.{waiting_of}
+use Rattle.rv_core.proofs.Words.{is_ready_station, Operand, Value, Station, path_of_load, is_operation, is_known_before}
+use Rattle.rv_core.proofs.Words.{may_go, needs_port, path_of, RegisterStatus, status_after, values_in, waiting_of}
 use Rattle.std.proofs.Math.Seq.{take-append_seam}
 use Rattle.std.proofs.lemmas.List.Elements.{All-take}
 use Rattle.rv_hardware.proofs.Marks.Sound.{is_of_kind_is}
@@ -28,9 +26,7 @@ agree_by ready goes operands may stationed r s g = grind arith
 
 -- an instruction that has a station of a kind is of that kind
 pub kind_there : (kind : Kind) (e : Entry) → is_stationed kind e ≡ true → kind_of_word e.instruction ≡ Some kind
-kind_there kind e is =
-    is_of_kind_is kind (kind_of_word e.instruction)
-    (and_parts (is_waiting e.stage) (is_of_kind kind (kind_of_word e.instruction)) is).1
+kind_there kind e is = grind (arith, is_of_kind_is)
 
 -- loads are of the memory's kind
 not_load : (kind : Kind) (i : Instr) → is_operation (Some kind) ≡ true → kind_of i ≡ Some kind →
@@ -71,13 +67,7 @@ module _ (h : Hardware) where
         test (waiting_of status number e.pc i) ≡ may (Some i)) →
         (is_ready_station (waiting_of status number e.pc i) && test (waiting_of status number e.pc i))
         ≡ is_ready_entry h kind older e
-    agrees kind test i decoded there passes =
-        let w = waiting_of status number e.pc i in
-        agree_by (is_ready_station w) (test w) (has_operands older (sources_of_word e.instruction)) (may e.instruction)
-        (is_stationed kind e)
-        (is_ready-known status older number e.pc i (λ r. is_known-status h.registers h.rob.retired older r)
-        ∙ ap (λ word. has_operands older (sources_of_word word)) (sym decoded))
-        there (λ ready. passes ready ∙ ap may (sym decoded))
+    agrees kind test i decoded there passes = grind (arith, agree_by, is_ready-known, is_known-status)
 
     module _ (all : older ++ e ∷ rest ≡ h.rob.entries)
         (retired : AreBelow (λ (s : Store). s.seq) h.rob.retired h.committed)
@@ -86,14 +76,10 @@ module _ (h : Hardware) where
       waiting_stores = stores_after h h.rob.entries
 
       known : is_known_before (first_unknown waiting_stores) number ≡ list_all is_known_store (stores_after h older)
-      known =
-          ap (λ es. is_known_before (first_unknown (stores_after h es)) number) (sym all)
-          ∙ is_known_before-stores_after h retired older (e ∷ rest)
+      known = grind (arith, is_known_before-stores_after)
 
       before : older_than number waiting_stores ≡ stores_after h older
-      before =
-          ap (λ es. older_than number (stores_after h es)) (sym all)
-          ∙ older_than-stores_after h retired older (e ∷ rest)
+      before = grind (arith, older_than-stores_after)
 
       port : (form : LoadForm) (rs1 base offset : ℕ) → status rs1 ≡ Value base →
           (nat_le h.port_free h.cycle || not
@@ -120,9 +106,7 @@ module _ (h : Hardware) where
             second = second;
           })
           ≡ may (Some (Load form rd rs1 offset))
-      load_goes form rd rs1 offset (Value base) second is there =
-          λ k. known k && port form rs1 base (modulo_word offset) is k
-      load_goes form rd rs1 offset (Tag tag) second is there = absurd (cc)
+      load_goes form rd rs1 offset first second is there = grind (arith, known, port)
 
       all_go : (i : Instr) → is_ready_station (waiting_of status number e.pc i) ≡ true →
           goes (waiting_of status number e.pc i) ≡ may (Some i)

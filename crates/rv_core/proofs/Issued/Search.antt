@@ -30,11 +30,7 @@ module _ (kind : Kind) (status : RegisterStatus) (seq : ℕ) (e : Entry) where
       (waiting_at kind status seq e e.instruction ≡ waiting_of status seq e.pc i ∷ []) × (is_stationed kind e ≡ true)
 
   by_word : (word : Option Instr) → e.instruction ≡ word → IsAway ⊎ IsThere
-  by_word None is = inl (grind arith, grind arith)
-  by_word (Some i) is = elim (cases_Bool (is_stationed kind e)) [
-    | inl there ↦ inr (i, is, grind arith, there)
-    | inr away ↦ inl (grind arith, away)
-  ]
+  by_word word is = grind arith
 
   pub at_cases : IsAway ⊎ IsThere
   at_cases = by_word e.instruction refl
@@ -62,12 +58,7 @@ module _ (kind : Kind) (status0 : RegisterStatus) (n0 : ℕ) where
       (issue : Issue) (message : Message) →
       e.instruction ≡ Some i → is_waiting e.stage ≡ true →
       stations_after older (started issue message e ∷ es) ≡ stations_after (older ++ e ∷ []) es
-  stations_started older e i es issue message is waiting =
-      rw (
-        status_push status0 n0 older e,
-        ← next_place older e,
-        ← status_started (status_after status0 n0 older) (n0 + length older) e issue message waiting,
-      ) (grind (arith, is))
+  stations_started older e i es issue message is waiting = grind (arith, status_push, next_place, status_started)
 
   module _ (entries : List Entry) (test : Station → Bool) (ready : List Entry → Entry → Bool) where
     -- each station of the kind is ready, and passes the test, where its instruction is ready
@@ -113,10 +104,7 @@ module _ (kind : Kind) (status0 : RegisterStatus) (n0 : ℕ) where
       joined xs = stations_step older e xs ∙ ap (λ l. l ++ stations_after (older ++ e ∷ []) xs) at
 
       none_past : NoneFound (older ++ e ∷ []) es → NoneFound older (e ∷ es)
-      none_past n = record {
-        defined = rw not n.defined;
-        searched = ap (oldest_ready test) (joined es) ∙ oldest_skips (stations_after (older ++ e ∷ []) es) ∙ n.searched;
-      }
+      none_past n = grind (arith, joined)
 
       found_past : Found (older ++ e ∷ []) es → Found older (e ∷ es)
       found_past f = record {

@@ -152,13 +152,4 @@ module _ {h : Hardware} {kind : Kind} {ready : Ready} (leaving : Leaving h kind 
       -- which is sound
       pub sound_started : IsSoundHardware h → IsDescribedCache h.values cache → port_free ≤ 2 ^ 43 →
           IsLegalWrite h.values (is_store e.instruction) message.fault message.store → IsSoundHardware hardware_started
-      sound_started sound described port legal = record {
-        legal = sound.legal;
-        cycles = sound.cycles;
-        port = port;
-        registers = sound.registers;
-        cache = described;
-        entries = entries_sound sound.entries legal;
-        stores = sound.stores;
-        fetched = sound.fetched;
-      }
+      sound_started sound described port legal = grind (arith, entries_sound)

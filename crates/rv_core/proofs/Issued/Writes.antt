@@ -1,14 +1,11 @@
 -- The stores older than an instruction write within RAM, and so does an instruction, or it faults.
-use Rattle.rv_core.proofs.Words.{◌≡◌, ℕ, ◌+◌, Bool, true, false, List, [], ◌∷◌, length, IfSome, Some, None, All, Option}
-use Rattle.rv_core.proofs.Words.{sym, refl, subst, arith, All-append, All-head, All-tail, bytes_of_number, is_store}
-use Rattle.rv_core.proofs.Words.{bytes_of, modulo_word, sum, Message, StoreAccess, Cause, Fault, Instr, Lines, Width}
-use Rattle.rv_core.proofs.Words.{Values, Effect, Faults, Retires, effect, stores, State, register_of, IsAligned}
-use Rattle.rv_core.proofs.Words.{Store as QueuedStore, Committed, Draining, StoreState, Entry, Stage, Finished}
-use Rattle.rv_core.proofs.Words.{Hardware, broadcast_of, store_of_broadcast, store_of_message, stores_of}
-use Rattle.rv_core.proofs.Words.{effect_message, result_in, layout_of, stores_after, LieIn, LiesIn, store_fault}
-use Rattle.rv_core.proofs.Words.{IsLegalWrite, IsRetiredStore, IsSoundEntry, message_of}
-use Rattle.rv_stores.specs.declared.store.StoreState.TheVariants as store
-use Rattle.rv_isa.specs.declared.instructions.Instr.TheVariants.{Store}
+use Rattle.rv_core.proofs.Words.{◌≡◌, ℕ, ◌+◌, Bool, true, false, List, [], ◌∷◌, IfSome, Some, None, All, Option, arith}
+use Rattle.rv_core.proofs.Words.{All-append, All-head, All-tail, bytes_of_number, is_store, bytes_of, Message}
+use Rattle.rv_core.proofs.Words.{StoreAccess, Cause, Fault, Instr, Lines, Width, Values, Effect, Faults, Retires}
+use Rattle.rv_core.proofs.Words.{stores, State, Store as QueuedStore, StoreState, Entry, Stage, Finished, Hardware}
+use Rattle.rv_core.proofs.Words.{broadcast_of, store_of_broadcast, store_of_message, stores_of, effect_message}
+use Rattle.rv_core.proofs.Words.{result_in, layout_of, stores_after, LieIn, LiesIn, store_fault, IsLegalWrite}
+use Rattle.rv_core.proofs.Words.{IsRetiredStore, IsSoundEntry, message_of}
 use Rattle.rv_core.proofs.Issued.Stores.{All-one}
 use Rattle.rv_core.proofs.Loads.Effect.{aligned_width, store_faults, store_gives, store_within}
 
@@ -20,16 +17,12 @@ module _ (values : Values) where
   size = values.ram_size
 
   pub retired_inside : (state : StoreState) → IsRetiredStore values state → LiesIn base size state
-  retired_inside (store.Filled access Committed) sound = (sound.from_base, sound.to_end)
-  retired_inside (store.Filled access Draining) sound = (sound.from_base, sound.to_end)
-  retired_inside _ sound = absurd sound
+  retired_inside state sound = grind arith
 
   write_inside : (is : Bool) (fault : Option Fault) (access : Option StoreAccess) →
       IsLegalWrite values is fault access →
       LiesIn base size (store_of_message access)
-  write_inside is fault None legal = tt
-  write_inside true None (Some access) legal = (legal.from_base, legal.to_end)
-  write_inside _ _ (Some access) legal = absurd legal
+  write_inside is fault access legal = grind arith
 
   broadcast_inside : (is : Bool) (stage : Stage) →
       IfSome (message_of stage) (λ message. IsLegalWrite values is message.fault message.store) →
@@ -74,23 +67,9 @@ module _ (values : Values) (s : State) (width : Width) (address word : ℕ) wher
 
   store_by_fault : (fault : Option Cause) → store_fault (layout_of values) address (bytes_of width) ≡ fault →
       writes_legally values true (effect_message (Some access) (stores (layout_of values) s width address word))
-  store_by_fault (Some cause) is =
-      subst (writes_legally values true)
-      (sym (store_faults (layout_of values) address s width word (Some access) cause is)) tt
-  store_by_fault None is =
-      let within = store_within (layout_of values) address (bytes_of width) is in
-      let long : length (bytes_of_number (bytes_of width) word) ≡ bytes_of width = grind arith in
-      subst (writes_legally values true) (sym (store_gives (layout_of values) address s width word (Some access) is))
-      (record {
-        aligned = subst (IsAligned address) (sym long) (aligned_width width address within.0);
-        from_base = omega (arith, within.1);
-        to_end = omega (arith, within.2, long);
-      })
+  store_by_fault fault is = grind (arith, store_faults, store_within, bytes_of, store_gives, aligned_width)
 
 -- what an instruction gives is a legal write
 pub result_writes : (values : Values) (s : State) (lines : Lines) (word : ℕ) (i : Instr) →
     writes_legally values (is_store (Some i)) (result_in (layout_of values) s lines word i)
-result_writes values s lines word (Store width rs1 rs2 offset) =
-    store_by_fault values s width (sum (register_of s rs1) (modulo_word offset)) (register_of s rs2)
-    (store_fault (layout_of values) (sum (register_of s rs1) (modulo_word offset)) (bytes_of width)) refl
-result_writes values s lines word i = silent values (effect (layout_of values) s lines word i)
+result_writes values s lines word i = grind (arith, store_by_fault, bytes_of, silent)

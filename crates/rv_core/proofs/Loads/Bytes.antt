@@ -65,12 +65,7 @@ module _ (base size : ℕ) (ss : List Store) (bytes : List ℕ) (sized : length 
       is_forwarded (forwarded ss address (bytes_of width)) (bytes_of width) ≡ true →
       slice_range ram place (place + bytes_of width)
       ≡ take (bytes_of width) (bytes_over (forwarded ss address (bytes_of width)) below)
-  bytes_from_stores below all =
-      bytes_laid ram below ss address place width within
-      (λ k lt.
-      byte_after k
-      ∙ forwarded_some (youngest_byte (address + k) ss) (get_or bytes (place + k) 0) (get_or below k 0)
-      (forwarded_all width ss address all k lt))
+  bytes_from_stores below all = grind (arith, bytes_laid, within, byte_after, forwarded_some, forwarded_all)
 
   -- those of the cache lie below
   pub bytes_from_cache : (padding : List ℕ) →

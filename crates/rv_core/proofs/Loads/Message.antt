@@ -1,9 +1,9 @@
 -- The value that a load takes from the older stores and the cache is that of its effect.
 use Rattle.rv_core.proofs.Words.{◌≡◌, ℕ, ◌+◌, ◌-◌, ◌≤◌, List, ◌++◌, length, take, slice_range, None, Option, sym, refl}
-use Rattle.rv_core.proofs.Words.{ap, ◌∙◌, subst, arith, number_of, bytes_of, is_sign_extended, width_of, pc_plus_4}
-use Rattle.rv_core.proofs.Words.{Cause, LoadForm, Width, Layout, fault_message, IsAccess, Memory, number_at, extended}
-use Rattle.rv_core.proofs.Words.{loads, State, Contents, forwarded, Store, bytes_after, effect_message, writes, IsAfter}
-use Rattle.rv_core.proofs.Words.{IsOverRam, bytes_over, load_fault, path_of}
+use Rattle.rv_core.proofs.Words.{arith, number_of, bytes_of, is_sign_extended, width_of, pc_plus_4, Cause, LoadForm}
+use Rattle.rv_core.proofs.Words.{Width, Layout, fault_message, IsAccess, Memory, number_at, extended, loads, State}
+use Rattle.rv_core.proofs.Words.{Contents, forwarded, Store, bytes_after, effect_message, writes, IsAfter, IsOverRam}
+use Rattle.rv_core.proofs.Words.{bytes_over, load_fault, path_of}
 use Rattle.rv_core.proofs.Loads.Bytes.{bytes_from_cache, bytes_from_stores}
 use Rattle.rv_core.proofs.Loads.Effect.{PathFacts, aligned_width, load_faults, load_gives, load_within, path_facts}
 use Rattle.rv_core.specs.declared.load.Path.{Path}
@@ -12,31 +12,20 @@ use Rattle.rv_core.specs.declared.load.Path.TheVariants.{Without, FromStores, Fr
 -- what is known by the path that was found
 found : (layout : Layout) (ss : List Store) (address count : ℕ) (path : Path) → path_of layout ss address count ≡ path →
     PathFacts (load_fault layout address count) (forwarded ss address count) count path
-found layout ss address count path is =
-    subst (λ p. PathFacts (load_fault layout address count) (forwarded ss address count) count p) is
-    (path_facts (load_fault layout address count) (forwarded ss address count) count)
+found layout ss address count path is = grind (arith, path_facts)
 
 -- a load that faults gives its fault
 pub from_fault : (cache : Contents Memory) (ss : List Store) (s : State) (form : LoadForm)
     (rd address : ℕ) (cause : Cause) →
     path_of cache.backing.layout ss address (bytes_of (width_of form)) ≡ Without cause →
     fault_message cause address ≡ effect_message None (loads cache.backing.layout s form rd address)
-from_fault cache ss s form rd address cause is =
-    sym (load_faults cache.backing.layout address s form rd cause
-    (found cache.backing.layout ss address (bytes_of (width_of form)) (Without cause) is))
+from_fault cache ss s form rd address cause is = grind (arith, load_faults, found, bytes_of)
 
 -- a load that accesses the cache reads as many bytes as it may
 pub accesses : (cache : Contents Memory) (ss : List Store) → IsOverRam cache → (width : Width) (address count : ℕ)
     (overlay : List (Option ℕ)) → path_of cache.backing.layout ss address (bytes_of width) ≡ FromCache overlay →
     count ≡ bytes_of width → IsAccess cache address count
-accesses cache ss over width address count overlay is same =
-    let within =
-    load_within cache.backing.layout address (bytes_of width)
-    (found cache.backing.layout ss address (bytes_of width) (FromCache overlay) is).0 in
-    rw same (
-      aligned_width width address within.0,
-      (omega (arith, over.base, within.1), omega (arith, over.base, over.size, within.2)),
-    )
+accesses cache ss over width address count overlay is same = grind (arith, load_within, bytes_of, found, aligned_width)
 
 module _ (cache : Contents Memory) (ss : List Store) (over : IsOverRam cache) (s : State) (after : IsAfter cache ss s)
     (form : LoadForm) (rd address : ℕ) where
@@ -67,13 +56,7 @@ module _ (cache : Contents Memory) (ss : List Store) (over : IsOverRam cache) (s
         ≡ take count (bytes_over (forwarded ss address count) below) →
         effect_message None (writes s rd (value_over overlay below) (pc_plus_4 s.pc))
         ≡ effect_message None (loads cache.backing.layout s form rd address)
-    gives overlay below same bytes =
-        let value : extended (is_sign_extended form) count (number_at cache.backing.layout s.ram address count)
-        ≡ value_over overlay below =
-        ap (extended (is_sign_extended form) count)
-        (number_after ∙ ap number_of (bytes ∙ ap (λ o. take count (bytes_over o below)) (sym same))) in
-        ap (λ v. effect_message None (writes s rd v (pc_plus_4 s.pc))) (sym value)
-        ∙ sym (load_gives cache.backing.layout address s form rd fault)
+    gives overlay below same bytes = grind (arith, number_after, writes, load_gives)
 
   -- a load whose bytes all come from the stores gives its effect
   pub from_stores : (overlay : List (Option ℕ)) (below : List ℕ) →

@@ -1,8 +1,7 @@
 -- The byte that programs see is the youngest retired store's, else the cache's.
 use Rattle.rv_core.proofs.Words.{◌≡◌, ℕ, ◌-◌, ◌≤◌, false, nat_le, slice_get, slice_index_or as get_or, Some, None}
-use Rattle.rv_core.proofs.Words.{Option, unwrap_or, sym, ap, ◌∙◌, arith, le-leb, and_from, cond-true, is_in_ram}
-use Rattle.rv_core.proofs.Words.{youngest_byte, Hardware, layout_of, seen, slice_get_past, byte_seen, IsCached, LieIn}
-use Rattle.rv_core.proofs.Words.{IsSoundHardware}
+use Rattle.rv_core.proofs.Words.{Option, unwrap_or, arith, le-leb, and_from, cond-true, is_in_ram, youngest_byte}
+use Rattle.rv_core.proofs.Words.{Hardware, layout_of, seen, slice_get_past, byte_seen, IsCached, LieIn, IsSoundHardware}
 use Rattle.rv_core.proofs.Loads.BytesAfter.{length-bytes_after, slice_get-bytes_after}
 use Rattle.rv_core.proofs.Issued.Writes.{committed_inside}
 
@@ -18,27 +17,13 @@ module _ (h : Hardware) (sound : IsSoundHardware h) (address : ℕ) where
 
   -- outside RAM there is none
   pub none_outside : (IsCached h.cache address → ⊥) → None ≡ byte
-  none_outside outside =
-      grind (
-        arith,
-        from_base,
-        slice_get_past,
-        sound.cache.base,
-        sound.cache.bytes,
-        length-bytes_after h.values.ram_base h.values.ram_size h.committed h.cache.bytes sound.cache.bytes inside,
-      )
+  none_outside outside = grind (arith, from_base, slice_get_past, length-bytes_after, inside)
 
   -- in RAM it is the youngest store's, or the cache's
   pub some_inside : IsCached h.cache address → (n : ℕ) →
       n ≡ unwrap_or (youngest_byte address h.committed) (get_or h.cache.bytes (address - h.cache.base) 0) →
       Some n ≡ byte
-  some_inside cached n is =
-      ap (λ m. Some m) (is ∙ ap
-      (λ b. unwrap_or (youngest_byte address h.committed) (get_or h.cache.bytes (address - b) 0)) sound.cache.base)
-      ∙ sym (from_base (omega (arith, cached.0, sound.cache.base))
-      ∙ slice_get-bytes_after h.values.ram_base h.values.ram_size address h.committed h.cache.bytes
-      sound.cache.bytes inside
-      (omega (arith, cached.0, sound.cache.base)) (omega (arith, cached.1, sound.cache.base, sound.cache.bytes)))
+  some_inside cached n is = grind (arith, from_base, slice_get-bytes_after, inside)
 
   -- no byte outside RAM is cached
   pub outside_by : (Found : Type 0) → IsCached h.cache address → is_in_ram (layout_of h.values) address 1 ≡ false →

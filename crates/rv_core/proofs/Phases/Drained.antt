@@ -1,10 +1,10 @@
 -- The drain phase on the queue is that on the retired stores: what is in flight stays after them.
 use Rattle.rv_core.proofs.Words.{◌≡◌, ℕ, ◌+◌, ◌<◌, Bool, true, false, List, [], ◌∷◌, ◌++◌, if◌then◌else◌, Some, None}
-use Rattle.rv_core.proofs.Words.{All, Option, refl, subst, arith, All-cons, All-head, All-tail, is_store, Message}
-use Rattle.rv_core.proofs.Words.{StoreAccess, Values, oldest_to_drain, with_oldest_draining, without_drained}
-use Rattle.rv_core.proofs.Words.{access_to_drain, draining, is_draining, Store as QueuedStore, Committed, Draining}
-use Rattle.rv_core.proofs.Words.{Speculative, StoreState, Entry, broadcast_of, store_of_broadcast, store_of_message}
-use Rattle.rv_core.proofs.Words.{stores_of, AreBelow, is_oldest_draining, IsLegalAccess, IsRetiredStore}
+use Rattle.rv_core.proofs.Words.{All, Option, refl, arith, All-cons, All-head, All-tail, is_store, Message, StoreAccess}
+use Rattle.rv_core.proofs.Words.{Values, oldest_to_drain, with_oldest_draining, without_drained, access_to_drain}
+use Rattle.rv_core.proofs.Words.{draining, is_draining, Store as QueuedStore, Speculative, StoreState, Entry}
+use Rattle.rv_core.proofs.Words.{broadcast_of, store_of_broadcast, store_of_message, stores_of, AreBelow}
+use Rattle.rv_core.proofs.Words.{is_oldest_draining, IsLegalAccess, IsRetiredStore}
 use Rattle.rv_stores.specs.declared.store.StoreState.TheVariants as store
 use Rattle.rv_core.proofs.Retired.Stores.{AreRetired}
 
@@ -105,10 +105,7 @@ below_when_draining n (s ∷ ss) are =
 
 drains_legally : (values : Values) (state : StoreState) (access : StoreAccess) → IsRetiredStore values state →
     access_to_drain (record { seq = 0; state = state }) ≡ Some access → IsLegalAccess values access
-drains_legally values (store.Filled a Committed) access retired is =
-    let same : a ≡ access = cc in subst (IsLegalAccess values) same retired
-drains_legally values (store.Filled a Draining) access retired is = absurd (cc)
-drains_legally values _ access retired is = absurd retired
+drains_legally values state access retired is = grind arith
 
 -- what the oldest store writes
 pub oldest_is_legal : (values : Values) (ss : List QueuedStore) (access : StoreAccess) → AreRetired values ss →

@@ -1,10 +1,9 @@
 -- A commit phase takes no more steps than its width, keeps the cycle's number, and stops at a breakpoint or a stale word alone.
-use Rattle.rv_core.proofs.Words.{◌≡◌, ℕ, suc, ◌<◌, ◌≤◌, Bool, true, false, cond, [], ◌∷◌, ◌++◌, length, Some, None}
-use Rattle.rv_core.proofs.Words.{Option, nat_cmp, refl, ap, ◌∙◌, arith, length-append, Cause, due, Committing, commit}
-use Rattle.rv_core.proofs.Words.{commit_turn, commit_unless, stop_of, Hardware, Turn, row_of, written_of}
-use Rattle.rv_core.proofs.Words.{is_breakpoint_cause, Leads, turns_within, Step, IsCommitStop}
+use Rattle.rv_core.proofs.Words.{◌≡◌, ℕ, suc, ◌<◌, ◌≤◌, Bool, [], ◌∷◌, ◌++◌, length, Some, None, Option, nat_cmp, refl}
+use Rattle.rv_core.proofs.Words.{ap, ◌∙◌, arith, length-append, Cause, due, Committing, commit, commit_turn}
+use Rattle.rv_core.proofs.Words.{commit_unless, stop_of, Hardware, Turn, row_of, written_of, Leads, turns_within, Step}
+use Rattle.rv_core.proofs.Words.{IsCommitStop}
 use Rattle.std.specs.FinSet as set
-use Rattle.rv_arch.specs.declared.outcome.Stop.TheVariants as stop
 use Rattle.rv_hardware.specs.declared.step.Step.TheVariants as step
 use Rattle.rv_hardware.proofs.Turns.Commit.{CommitTurn, stale_head, fence_retires, executes, serial_faults, traps}
 use Rattle.rv_hardware.proofs.Turns.Commit.{retires, retires_last, commit_turn_is}
@@ -28,16 +27,10 @@ module _ (now : ℕ) where
   -- the same steps
   stays : (taken most : ℕ) (c d : Committing) → taken < most → d.hardware.cycle ≡ c.hardware.cycle → d.steps ≡ c.steps →
       IsCommitStop d.stop → Commits taken c → Commits most d
-  stays taken most c d less same none stops is = record {
-    cycle = same ∙ is.cycle;
-    steps = omega (arith, less, is.steps, ap length none);
-    stop = stops;
-  }
+  stays taken most c d less same none stops is = grind arith
 
   breakpoint : (cause : Cause) → IsCommitStop (stop_of cause)
-  breakpoint cause =
-      elim (is_breakpoint_cause cause) as (λ b. IsCommitStop (cond b (Some stop.Breakpoint) None))
-      [ true ↦ tt | false ↦ tt ]
+  breakpoint cause = grind arith
 
   module _ (is_stale : set.FinSet nat_cmp → ℕ → Bool) where
     -- a turn takes one step at most

@@ -1,8 +1,8 @@
 -- Everything in flight is squashed: what is left is empty, but for the retired stores.
 use Rattle.rv_core.proofs.Words.{◌≡◌, ℕ, List, [], filter, sym, ap, ◌∙◌, append-nil, arith, at_kind, for_each, PerKind}
-use Rattle.rv_core.proofs.Words.{Values, is_committed, ReorderBuffer, mends_early, Hardware, flushed, redirected, below}
-use Rattle.rv_core.proofs.Words.{below-none, by_kind-same, Queue, Pool, squashed_pool, Pending, squashed_bus, Renaming}
-use Rattle.rv_core.proofs.Words.{cleared, cut_from, IsSoundHardware, AreTied, bus_of, pool_of_kind, stations_of}
+use Rattle.rv_core.proofs.Words.{Values, is_committed, ReorderBuffer, mends_early, Hardware, flushed, below, below-none}
+use Rattle.rv_core.proofs.Words.{by_kind-same, Queue, Pool, squashed_pool, Pending, squashed_bus, Renaming, cleared}
+use Rattle.rv_core.proofs.Words.{cut_from, IsSoundHardware, AreTied, bus_of, pool_of_kind, stations_of}
 use Rattle.rv_core.proofs.Retired.Stores.{AreRetired}
 use Rattle.rv_core.proofs.Phases.InFlight.{sound_in_flight}
 use Rattle.rv_core.proofs.Ties.Entries.{entries_below-none}
@@ -50,13 +50,8 @@ tied_when_flushed h pc registers rob rename stations bus queue tied are = record
 
 -- flushed hardware is sound
 pub sound_when_flushed : (h : Hardware) → IsSoundHardware h → IsSoundHardware (flushed h)
-sound_when_flushed h sound =
-    sound_in_flight h [] (redirected h.pc h.front) sound (omega arith) (λ k d lt. absurd (omega (arith, lt)))
-    (λ i j d lt within. absurd (omega (arith, within)))
-    (λ k d lt. absurd (omega (arith, lt)))
+sound_when_flushed h sound = grind (arith, sound_in_flight)
 
 -- a cut from the first number on leaves an empty reorder buffer
 pub emptied : (rob : ReorderBuffer) → cut_from 0 rob ≡ record rob { entries = [] }
-emptied rob =
-    ap (λ l. record { capacity = rob.capacity; retired = rob.retired; entries = l })
-    (entries_below-none 0 rob.retired rob.entries (omega arith))
+emptied rob = grind (arith, entries_below-none)

@@ -1,15 +1,14 @@
 -- The head retires: rename map, stations, bus and queue are those of the instructions after it.
 use Rattle.rv_core.proofs.Words.{◌≡◌, ℕ, ◌+◌, ◌<◌, Bool, true, false, not, ◌≢◌, List, [], ◌∷◌, ◌++◌, map, length}
 use Rattle.rv_core.proofs.Words.{IfSome, if◌then◌else◌, ◌==◌, Some, None, filter, Option, sym, refl, ap, ◌∙◌, arith}
-use Rattle.rv_core.proofs.Words.{get_or-set_other, get_or-set_same, eq-eqb, ne_eqb, is_branch_or_jump, is_store}
-use Rattle.rv_core.proofs.Words.{is_target, target_of_word, at_kind, Message, Kind, PerKind, Values, with_register}
-use Rattle.rv_core.proofs.Words.{ReorderBuffer, after_head, head_retired, Entry, Stage, mends_early, Hardware}
-use Rattle.rv_core.proofs.Words.{broadcast_of, is_waiting, stores_of, with_value, committed_store, with_result}
-use Rattle.rv_core.proofs.Words.{by_kind-same, Queue, Pool, Pending, Checkpoint, Renaming, checkpoint_without_oldest}
-use Rattle.rv_core.proofs.Words.{retired, without_checkpoint, without_oldest, Producer, with_commit, without_target}
-use Rattle.rv_core.proofs.Words.{IsLegalWrite, AreTied, bus_of, checkpoints_of, operand_by, pending_of, pool_of_kind}
-use Rattle.rv_core.proofs.Words.{producer_of, producers_of, producers_with, renaming_of, stations_of, status_with}
-use Rattle.rv_core.proofs.Words.{values_in, waiting_from}
+use Rattle.rv_core.proofs.Words.{get_or-set_other, get_or-set_same, eq-eqb, ne_eqb, is_store, is_target, target_of_word}
+use Rattle.rv_core.proofs.Words.{Message, Kind, PerKind, Values, with_register, ReorderBuffer, after_head, head_retired}
+use Rattle.rv_core.proofs.Words.{Entry, Stage, Hardware, broadcast_of, is_waiting, stores_of, with_value}
+use Rattle.rv_core.proofs.Words.{committed_store, with_result, by_kind-same, Queue, Pool, Pending, Checkpoint, Renaming}
+use Rattle.rv_core.proofs.Words.{checkpoint_without_oldest, retired, without_checkpoint, without_oldest, Producer}
+use Rattle.rv_core.proofs.Words.{with_commit, without_target, IsLegalWrite, AreTied, bus_of, checkpoints_of, operand_by}
+use Rattle.rv_core.proofs.Words.{pending_of, producer_of, producers_of, producers_with, renaming_of, stations_of}
+use Rattle.rv_core.proofs.Words.{status_with, values_in, waiting_from}
 use Rattle.rv_core.proofs.Ties.Stations.{busy-at}
 use Rattle.rv_core.proofs.Retired.Stores.{AreRetired, queued_after_head}
 
@@ -103,12 +102,7 @@ without_head : (r seq : ℕ) (es : List Entry) (is_jump : Bool) →
     (noted is_jump seq (record { register = r; seq = seq } ∷ [])
     (checkpoints_of (record { register = r; seq = seq } ∷ []) (seq + 1) es)))
     ≡ checkpoints_of [] (seq + 1) es
-without_head r seq es is_jump =
-    ap (filter (λ c. not (seq == c.seq)))
-    (noted_without r seq seq [] (checkpoints_of (record { register = r; seq = seq } ∷ []) (seq + 1) es)
-    (checkpoints_of [] (seq + 1) es)
-    (without_retired r seq [] (seq + 1) es) is_jump)
-    ∙ noted_goes seq [] (checkpoints_of [] (seq + 1) es) (younger_stay seq [] (seq + 1) es (omega arith)) is_jump
+without_head r seq es is_jump = grind (arith, noted_without, without_retired, noted_goes, younger_stay)
 
 renamed_from : (capacity seq : ℕ) (target : Option ℕ) (is_jump : Bool) (es : List Entry) (is_early : Bool) →
     without_checkpoint seq (without_target seq target (record {
@@ -139,9 +133,7 @@ pub renamed_after_head : (values : Values) (capacity seq : ℕ) (e : Entry) (es 
     without_checkpoint seq (without_target seq (target_of_word e.instruction)
     (renaming_of values (record { capacity = capacity; retired = seq; entries = e ∷ es })))
     ≡ renaming_of values (record { capacity = capacity; retired = seq + 1; entries = es })
-renamed_after_head values capacity seq e es =
-    renamed_from values.rob seq (target_of_word e.instruction) (is_branch_or_jump e.instruction) es
-    (mends_early values.recovery)
+renamed_after_head values capacity seq e es = grind (arith, renamed_from)
 
 pub stationed_after_head : (values : Values) (registers : List ℕ) (capacity seq : ℕ) (e : Entry) (es : List Entry)
     (m : Message) →
@@ -150,13 +142,7 @@ pub stationed_after_head : (values : Values) (registers : List ℕ) (capacity se
     ≡ stations_of values (with_value registers (target_of_word e.instruction) (Some m))
     (record { capacity = capacity; retired = seq + 1; entries = es })
 stationed_after_head values registers capacity seq e es m known ok =
-    by_kind-same (pool_of_kind values registers (record { capacity = capacity; retired = seq; entries = e ∷ es }))
-    (pool_of_kind values (with_value registers (target_of_word e.instruction) (Some m))
-    (record { capacity = capacity; retired = seq + 1; entries = es }))
-    (λ kind i. record {
-      waiting = stations_after_head kind registers seq e es m known ok i;
-      capacity = (at_kind kind values.kinds).stations;
-    })
+    grind (arith, by_kind-same, retired, stations_after_head)
 
 pub pending_after_head : (values : Values) (capacity seq : ℕ) (e : Entry) (es : List Entry) (m : Message) →
     broadcast_of e.stage ≡ Some m →

@@ -1,9 +1,8 @@
 -- What the turns of the commit phase have taken, with what is still to come, is the definition's commit phase.
-use Rattle.rv_core.proofs.Words.{◌≡◌, ℕ, ◌+◌, ◌*◌, ◌<◌, ◌≤◌, List, [], ◌++◌}
-use Rattle.rv_core.proofs.Words.{length, Some, None, Option, sym, refl, ap, subst}
-use Rattle.rv_core.proofs.Words.{◌∙◌, append-nil, arith, length-append, due, Committing, commit}
-use Rattle.rv_core.proofs.Words.{commit_turn, commit_unless, Hardware, Ends, repeated, Step, IsKept, and_step}
-use Rattle.rv_core.proofs.Words.{committing, turn_left, HeadTurn}
+use Rattle.rv_core.proofs.Words.{◌≡◌, ℕ, ◌+◌, ◌*◌, ◌<◌, ◌≤◌, List, [], ◌++◌, length, Some, None, Option, sym, refl, ap}
+use Rattle.rv_core.proofs.Words.{subst, ◌∙◌, append-nil, arith, length-append, due, Committing, commit, commit_turn}
+use Rattle.rv_core.proofs.Words.{commit_unless, Hardware, Ends, repeated, Step, IsKept, and_step, committing, turn_left}
+use Rattle.rv_core.proofs.Words.{HeadTurn}
 use Rattle.std.proofs.Common.{Fits, rules, w32}
 use Rattle.std.specs.FinSet as set
 use Rattle.rv_core.specs.HeadTurn.{step_taken}
@@ -51,10 +50,7 @@ pub committed_whole : (start h : Hardware) (old new : Steps) (done left : ℕ)
     ((steps : List Step) → commit_turn set.contains (committing h steps) ≡ turn_left next steps step turn) →
     turn_left next before.steps step turn ≡ Ends last →
     last ≡ commit set.contains start
-committed_whole start h old new done left before step turn next last some is ends =
-    turned-ends (commit_turn set.contains) (commit set.contains start) left (committing h before.steps)
-    last some before.to_come
-    (is before.steps ∙ ends)
+committed_whole start h old new done left before step turn next last some is ends = grind (arith, turned-ends, commit)
 
 -- the step of a turn comes last
 taken_last : (steps : List Step) (step : Option Step) → steps ++ step_taken step ≡ and_step steps step

@@ -1,10 +1,10 @@
 -- The turn that a head has by its role is the definition's, and keeps what no turn changes.
 use Rattle.rv_core.proofs.Words.{◌≡◌, ℕ, ◌+◌, ◌≤◌, arith, Guide, IsKept, IsTurn, false, true, Stale, Stop, Message}
 use Rattle.rv_core.proofs.Words.{stop_after, turn_ended, turn_left, flushed, with_result, eq-eqb, ne_eqb, ◌≢◌, row_of}
-use Rattle.rv_core.proofs.Words.{List, [], ◌∷◌, slice_get, Some, None, Option, nat_cmp, sym, refl, ap, ◌∙◌}
-use Rattle.rv_core.proofs.Words.{is_serialising, Instr, word_of, Entry, Committing, commit_turn, commit_turn_of}
-use Rattle.rv_core.proofs.Words.{execute_head, finish_broadcast, head_turn, Hardware, broadcast_of, Ends, Step, IsHead}
-use Rattle.rv_core.proofs.Words.{committing, instruction_of_access, role_of, CsrAccess as Access, WaitsForResult}
+use Rattle.rv_core.proofs.Words.{List, [], ◌∷◌, slice_get, Some, None, Option, nat_cmp, refl, ap, ◌∙◌, is_serialising}
+use Rattle.rv_core.proofs.Words.{Instr, word_of, Entry, Committing, commit_turn, commit_turn_of, execute_head}
+use Rattle.rv_core.proofs.Words.{finish_broadcast, head_turn, Hardware, broadcast_of, Ends, Step, IsHead, committing}
+use Rattle.rv_core.proofs.Words.{instruction_of_access, role_of, CsrAccess as Access, WaitsForResult}
 use Rattle.std.specs.FinSet as set
 use Rattle.rv_core.specs.declared.steps.Steps.{Steps}
 use Rattle.rv_core.proofs.Taken.{takes_none}
@@ -57,11 +57,7 @@ kept_as h next values cycle rob =
 
 -- two changes that keep it, the first of which leaves the reorder buffer as it is, keep it together
 pub kept_from : (h now next : Hardware) → IsKept h now → now.rob ≡ h.rob → IsKept now next → IsKept h next
-kept_from h now next before rob after = record {
-  values = after.values ∙ before.values;
-  cycle = after.cycle ∙ before.cycle;
-  retired = omega (arith, after.retired, ap (λ (r : ReorderBuffer). r.retired) rob);
-}
+kept_from h now next before rob after = grind arith
 
 -- a serialising head that retires, with a pc and registers, and flushes everything keeps it
 pub kept_serialising : (h next : Hardware) (pc : ℕ) (registers : List ℕ) →
@@ -89,24 +85,18 @@ first_is_head h e is = first_of h.rob.entries e is
 pub turn_of_head : (h : Hardware) (e : Entry) (steps : List Step) → IsHead h e →
     set.contains {R = nat_cmp} h.stale (word_of e.pc) ≡ false →
     commit_turn set.contains (committing h steps) ≡ head_turn e e.instruction (committing h steps)
-turn_of_head h e steps head fresh =
-    ap (λ l. commit_turn_of set.contains l (committing h steps)) head.1
-    ∙ rw fresh refl
+turn_of_head h e steps head fresh = grind arith
 
 -- there is one head
 pub heads_agree : (h : Hardware) (a b : Entry) → IsHead h a → IsHead h b → a ≡ b
-heads_agree h a b first second =
-    let same : a ∷ first.0 ≡ b ∷ second.0 = sym first.1 ∙ second.1 in
-    cc
+heads_agree h a b first second = grind arith
 
 -- where the head is stale, the run stops
 pub turn_of_stale : (h : Hardware) (e : Entry) (steps : List Step) → IsHead h e →
     set.contains {R = nat_cmp} h.stale (word_of e.pc) ≡ true →
     commit_turn set.contains (committing h steps)
     ≡ Ends (record { hardware = h; steps = steps; stop = Some (Stale e.pc) })
-turn_of_stale h e steps head stale =
-    ap (λ l. commit_turn_of set.contains l (committing h steps)) head.1
-    ∙ rw stale refl
+turn_of_stale h e steps head stale = grind arith
 
 -- a head that does not serialise finishes by its result
 pub turn_not_serialising : (e : Entry) (instruction : Option Instr) (c : Committing) →
@@ -119,9 +109,7 @@ pub turn_finishes : (h : Hardware) (e : Entry) (steps : List Step) (result : Opt
     set.contains {R = nat_cmp} h.stale (word_of e.pc) ≡ false → is_serialising e.instruction ≡ false →
     broadcast_of e.stage ≡ result →
     commit_turn set.contains (committing h steps) ≡ finish_broadcast e result (committing h steps)
-turn_finishes h e steps result head fresh plain known =
-    turn_of_head h e steps head fresh ∙ turn_not_serialising e e.instruction (committing h steps) plain
-    ∙ ap (λ o. finish_broadcast e o (committing h steps)) known
+turn_finishes h e steps result head fresh plain known = grind (arith, turn_of_head, turn_not_serialising)
 
 -- a result with a fault is a trap
 pub traps_by : (e : Entry) (m : Message) (fault : Fault) (c : Committing) → m.fault ≡ Some fault →

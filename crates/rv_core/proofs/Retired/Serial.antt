@@ -1,5 +1,5 @@
 -- The hardware of which a serialising head has left is sound, and so it is with other CSRs and stale words.
-use Rattle.rv_core.proofs.Words.{◌≡◌, ℕ, ◌+◌, ◌*◌, ◌<◌, List, ◌∷◌, length, Option, ap, ◌∙◌, subst, arith, length-set}
+use Rattle.rv_core.proofs.Words.{◌≡◌, ℕ, ◌+◌, ◌*◌, ◌<◌, List, ◌∷◌, length, Option, ap, ◌∙◌, arith, length-set}
 use Rattle.rv_core.proofs.Words.{Store as QueuedStore, ReorderBuffer, head_retired, Entry, Hardware, AreBelow-weaken}
 use Rattle.rv_core.proofs.Words.{registers_with, IsSoundHardware, IsSound, IsKept, StaleWords, Inside, hardware_of}
 use Rattle.rv_arch.specs.Csr.{Kept}
@@ -34,30 +34,9 @@ sound_after_serial h e es pc written sound entries room = record {
 -- CSRs and stale words bear on nothing in flight
 pub sound_apart : (p : Inside) (csrs : Kept) (stale : StaleWords) → IsSound p → stale.base ≡ p.stale.base →
     stale.size ≡ p.stale.size → IsSound (record p { csrs = csrs; stale = stale })
-sound_apart p csrs stale before base size = record {
-  sound = record {
-    legal = before.sound.legal;
-    cycles = before.sound.cycles;
-    port = before.sound.port;
-    registers = before.sound.registers;
-    cache = before.sound.cache;
-    entries = before.sound.entries;
-    stores = before.sound.stores;
-    fetched = before.sound.fetched;
-  };
-  tied = record {
-    renamed = before.tied.renamed;
-    stationed = before.tied.stationed;
-    pending = before.tied.pending;
-    queued = before.tied.queued;
-  };
-  stale_base = base ∙ before.stale_base;
-  stale_size = size ∙ before.stale_size;
-}
+sound_apart p csrs stale before base size = grind arith
 
 -- nor on what no turn changes
 pub kept_apart : (p : Inside) (csrs : Kept) (stale : StaleWords) (h next : Hardware) → hardware_of p ≡ h →
     IsKept (hardware_of (record p { csrs = csrs; stale = stale })) next → IsKept h next
-kept_apart p csrs stale h next is kept =
-    subst (λ (x : Hardware). IsKept x next) is
-    (record { values = kept.values; cycle = kept.cycle; retired = kept.retired })
+kept_apart p csrs stale h next is kept = grind arith

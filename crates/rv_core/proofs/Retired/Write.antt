@@ -1,8 +1,8 @@
 -- What a head that retires writes is legal: its target lies in the registers, and its store in RAM.
-use Rattle.rv_core.proofs.Words.{◌≡◌, ℕ, Bool, true, false, List, ◌∷◌, IfSome, Some, None, All, Option, option_map}
-use Rattle.rv_core.proofs.Words.{subst, arith, ne_eqb, All-head, is_store, Message, StoreAccess, Fault, Values, Entry}
-use Rattle.rv_core.proofs.Words.{Stage, Hardware, broadcast_of, with_value, IsTrue, StaleWords, is_covered}
-use Rattle.rv_core.proofs.Words.{registers_with, IsLegalAccess, IsLegalWrite, IsSoundEntry, IsSoundHardware, message_of}
+use Rattle.rv_core.proofs.Words.{◌≡◌, ℕ, Bool, List, ◌∷◌, IfSome, Some, None, All, Option, option_map, subst, arith}
+use Rattle.rv_core.proofs.Words.{ne_eqb, All-head, is_store, Message, StoreAccess, Fault, Values, Entry, Stage}
+use Rattle.rv_core.proofs.Words.{Hardware, broadcast_of, with_value, IsTrue, StaleWords, is_covered, registers_with}
+use Rattle.rv_core.proofs.Words.{IsLegalAccess, IsLegalWrite, IsSoundEntry, IsSoundHardware, message_of}
 use Rattle.rv_core.proofs.Retired.Head.{IsTarget}
 
 known_message : (stage : Stage) (m : Message) → broadcast_of stage ≡ Some m → message_of stage ≡ Some m
@@ -30,9 +30,7 @@ pub write_is_covered : (values : Values) (stale : StaleWords) (is_store : Bool) 
     IsLegalWrite values is_store None written →
     stale.base ≡ values.ram_base → stale.size ≡ values.ram_size →
     IfSome written (λ a. IsTrue (is_covered stale a.address))
-write_is_covered values stale writes None legal base size = record {}
-write_is_covered values stale true (Some access) legal base size = access_is_covered values stale access legal base size
-write_is_covered values stale false (Some access) legal base size = absurd legal
+write_is_covered values stale writes written legal base size = grind (arith, access_is_covered)
 
 -- the registers with a target's value
 pub target_written : (registers : List ℕ) (target : Option ℕ) (m : Message) → IsTarget registers target →

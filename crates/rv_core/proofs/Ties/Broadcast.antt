@@ -1,13 +1,12 @@
 -- A broadcast and the squash after a wrong prediction keep the ties of the parts and the soundness of the hardware.
-use Rattle.rv_core.proofs.Words.{◌≡◌, ℕ, ◌+◌, true, false, ◌&&◌, [], ◌++◌, map, length, IfSome, Some, None, sym, refl}
-use Rattle.rv_core.proofs.Words.{ap, ◌∙◌, subst, arith, is_branch_or_jump, is_serialising, is_store, for_each, finished}
-use Rattle.rv_core.proofs.Words.{predicting, ReorderBuffer, changed, entries_below, with_entry, Entry, broadcast_oldest}
-use Rattle.rv_core.proofs.Words.{broadcast_result, broadcast_turn, is_mispredicted, mends_early, with_broadcast}
-use Rattle.rv_core.proofs.Words.{with_recovery, Hardware, broadcast_of, is_waiting, store_of_message, Ends, GoesOn}
-use Rattle.rv_core.proofs.Words.{redirected, find, Queue, older_than, answered, squashed_pool, woken_pool, Pending}
-use Rattle.rv_core.proofs.Words.{granted_one, is_ready_result, squashed_bus, PendingResult, restored, cut_from}
-use Rattle.rv_core.proofs.Words.{entry_of, broadcast_entry, IsSound, hardware_of, IsLegalWrite, IsSoundEntry}
-use Rattle.rv_core.proofs.Words.{IsSoundHardware, message_of, AreTied, bus_of, Inside}
+use Rattle.rv_core.proofs.Words.{◌≡◌, ℕ, ◌+◌, true, false, ◌&&◌, [], ◌++◌, map, Some, None, sym, refl, ap, ◌∙◌, arith}
+use Rattle.rv_core.proofs.Words.{is_branch_or_jump, is_serialising, for_each, finished, predicting, ReorderBuffer}
+use Rattle.rv_core.proofs.Words.{changed, entries_below, with_entry, Entry, broadcast_turn, is_mispredicted}
+use Rattle.rv_core.proofs.Words.{mends_early, with_broadcast, with_recovery, Hardware, broadcast_of, is_waiting}
+use Rattle.rv_core.proofs.Words.{store_of_message, Ends, GoesOn, redirected, find, Queue, older_than, answered}
+use Rattle.rv_core.proofs.Words.{squashed_pool, woken_pool, granted_one, is_ready_result, squashed_bus, PendingResult}
+use Rattle.rv_core.proofs.Words.{restored, cut_from, entry_of, broadcast_entry, IsSound, hardware_of, IsSoundEntry}
+use Rattle.rv_core.proofs.Words.{IsSoundHardware, AreTied, bus_of, Inside}
 use Rattle.rv_core.proofs.Ties.Closed.{closed-is, closed-sound}
 use Rattle.rv_core.proofs.Phases.InFlight.{sound_in_flight}
 use Rattle.rv_core.proofs.Ties.Bus.{IsGranted, bus-predicting, bus-squashed, granted, granted-none, without-none}
@@ -21,10 +20,7 @@ use Rattle.rv_core.proofs.Ties.Stations.{stations-predicting, stations-squashed,
 module _ (p : Inside) (is : IsSound p) (none : find (is_ready_result p.cycle) p.bus.results ≡ None) where
   -- the turn ends and changes nothing
   pub unsent : broadcast_turn (hardware_of p) ≡ Ends (hardware_of p)
-  unsent =
-      ap (broadcast_oldest (hardware_of p))
-      (granted-none p.cycle p.rob.retired [] p.rob.entries
-      (sym (ap (λ (bus : Pending). find (is_ready_result p.cycle) bus.results) is.tied.pending) ∙ none))
+  unsent = grind (arith, granted-none)
 
   -- nor does the bus change
   pub unsent_bus : granted_one p.cycle p.bus ≡ p.bus
@@ -35,15 +31,10 @@ module _ (p : Inside) (is : IsSound p) (r : PendingResult)
     (found : find (is_ready_result p.cycle) p.bus.results ≡ Some r) where
   -- it is the result of an instruction in flight
   pub grant : IsGranted p.cycle p.rob.retired [] p.rob.entries r
-  grant =
-      granted p.cycle p.rob.retired [] p.rob.entries r
-      (sym (ap (λ (bus : Pending). find (is_ready_result p.cycle) bus.results) is.tied.pending) ∙ found)
+  grant = grind (arith, granted)
 
   pub sent-turn : broadcast_turn (hardware_of p) ≡ broadcast_entry (hardware_of p) r.seq grant.entry grant.message
-  sent-turn =
-      let h = hardware_of p in
-      let number : h.rob.retired + length grant.before ≡ r.seq = omega (arith, grant.number) in
-      ap (broadcast_oldest h) grant.is_oldest ∙ (λ i. broadcast_result h (number i) grant.entry (grant.over i))
+  sent-turn = grind (arith, grant)
 
   -- where the prediction was wrong and is mended early, the turn squashes what is younger
   pub sent-recovers : (mends_early p.values.recovery && is_mispredicted grant.entry grant.message) ≡ true →
@@ -77,16 +68,7 @@ module _ (p : Inside) (is : IsSound p) (r : PendingResult)
 
   sent-entry : (e : Entry) → entry_of r.seq p.rob.retired p.rob.entries ≡ Some e → IsSoundEntry p.values e →
       IsSoundEntry p.values (finished grant.message p.cycle e)
-  sent-entry e held one =
-      let same : Some e ≡ Some grant.entry = sym held ∙ grant.held in
-      let is_entry : e ≡ grant.entry = cc in
-      let stage = ap (λ (x : Entry). x.stage) is_entry ∙ grant.running in
-      record {
-        decoded = one.decoded;
-        target = one.target;
-        writes = subst (λ stage. IfSome (message_of stage)
-            (λ message. IsLegalWrite p.values (is_store e.instruction) message.fault message.store)) stage one.writes;
-      }
+  sent-entry e held one = grind (arith, grant)
 
   sent_sound : IsSoundHardware sent_to
   sent_sound =

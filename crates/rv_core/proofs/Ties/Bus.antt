@@ -20,31 +20,21 @@ pending-at : (s : ℕ) (stage : Stage) → All (λ p. seq_of p ≡ s) (pending_o
 pending-at s stage = grind (arith, All-cons)
 
 pending-cut : (n s : ℕ) (es : List Entry) → below seq_of n (pending_from s es) ≡ pending_from s (entries_below n s es)
-pending-cut n s es =
-    ap (below seq_of n) (pending-gathered s es) ∙
-    gathered-cut nothing own_result seq_of (λ st s e. pending-at s e.stage) n tt s es ∙
-    sym (pending-gathered s (entries_below n s es))
+pending-cut n s es = grind (arith, below, pending-gathered, gathered-cut, nothing, pending-at)
 
 pending-predicting : (next_pc n s : ℕ) (es : List Entry) →
     pending_from s (with_entry (predicting next_pc) n s es) ≡ pending_from s es
-pending-predicting next_pc n s es =
-    pending-gathered s (with_entry (predicting next_pc) n s es) ∙
-    gathered-same nothing own_result (predicting next_pc) (λ st s e. refl) (λ st s e. refl) n tt s es ∙
-    sym (pending-gathered s es)
+pending-predicting next_pc n s es = grind (arith, pending-gathered, gathered-same, nothing)
 
 -- the bus after a squash is that of the instructions that are left
 pub bus-squashed : (values : Values) (rob : ReorderBuffer) (n : ℕ) →
     squashed_bus n (bus_of values rob) ≡ bus_of values (cut_from n rob)
-bus-squashed values rob n =
-    ap (λ results. record { results = results; capacity = values.rob; width = values.bus_width })
-    (pending-cut n rob.retired rob.entries)
+bus-squashed values rob n = grind (arith, pending-cut)
 
 -- another prediction leaves the bus as it is
 pub bus-predicting : (values : Values) (rob : ReorderBuffer) (n next_pc : ℕ) →
     bus_of values (changed (predicting next_pc) n rob) ≡ bus_of values rob
-bus-predicting values rob n next_pc =
-    ap (λ results. record { results = results; capacity = values.rob; width = values.bus_width })
-    (pending-predicting next_pc n rob.retired rob.entries)
+bus-predicting values rob n next_pc = grind (arith, pending-predicting)
 
 -- ---- dispatch: nothing that enters executes
 pending-first : (n : ℕ) (unit : Option Kind) (serialising : Bool) (cycle : ℕ) (message : Message) →

@@ -63,10 +63,7 @@ pub reason-is : (h : Hardware) (fetched : Fetched) (serial room station queue : 
     (is_store fetched.instruction && nat_le h.values.store_queue (length (stores_after h h.rob.entries))) ≡ queue
     → reason_of h fetched ≡ cond serial (Some stall.Serial)
     (cond room (Some stall.Rob) (cond station (Some stall.Station) (cond queue (Some stall.Store) None)))
-reason-is h fetched serial room station queue serial_is room_is station_is queue_is = λ i.
-    cond (serial_is i) (Some stall.Serial)
-    (cond (room_is i) (Some stall.Rob)
-    (cond (station_is i) (Some stall.Station) (cond (queue_is i) (Some stall.Store) None)))
+reason-is h fetched serial room station queue serial_is room_is station_is queue_is = grind arith
 
 -- ---- the entry
 first-legal : (values : Values) (layout : Layout) (s : State) (lines : Lines) (cycle : ℕ)
@@ -85,12 +82,7 @@ module _ (h : Hardware) (fetched : Fetched) where
 
   sound-entry : IsDecoded fetched → IfSome (target_of_word fetched.instruction) (λ register. register < 32) →
       IsSoundEntry h.values new_entry
-  sound-entry decoded target = record {
-    decoded = decoded;
-    target = target;
-    writes = first-legal h.values (layout_of h.values)
-        (state_after h h.rob.entries fetched.pc) h.lines h.cycle fetched.word fetched.instruction;
-  }
+  sound-entry decoded target = grind (arith, first-legal)
 
   all_fail : (es : List Entry) → list_any (λ e. is_serialising e.instruction) es ≡ false →
       All (λ (e : Entry). is_serialising e.instruction ≡ false) es

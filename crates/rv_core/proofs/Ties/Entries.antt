@@ -1,8 +1,8 @@
 -- A change of the entry of a number, and a cut at one, keep what holds of the entries.
 use Rattle.rv_core.proofs.Words.{◌-◌, ◌≡◌, ℕ, suc, ◌+◌, ◌<◌, ◌≤◌, true, false, cond, List, [], ◌∷◌, length, ◌==◌}
-use Rattle.rv_core.proofs.Words.{slice_index_or as get_or, Some, All, AllPairs, sym, refl, ap, ◌∙◌, inl, inr, arith}
-use Rattle.rv_core.proofs.Words.{eqb-true, cases_Bool, All-cons, All-head, All-tail, AllPairs-cons, entries_below}
-use Rattle.rv_core.proofs.Words.{with_entry, Entry, entry_of}
+use Rattle.rv_core.proofs.Words.{slice_index_or as get_or, Some, All, AllPairs, refl, inl, inr, arith, eqb-true}
+use Rattle.rv_core.proofs.Words.{cases_Bool, All-cons, All-head, All-tail, AllPairs-cons, entries_below, with_entry}
+use Rattle.rv_core.proofs.Words.{Entry, entry_of}
 use Rattle.std.proofs.lemmas.List.{get_or-take, length-take}
 use Rattle.std.proofs.lemmas.List.Elements.{All-take}
 use Rattle.rv_rob.proofs.Places.{entries_below-take}
@@ -14,12 +14,7 @@ pub data IsHeld (n s : ℕ) (d : Entry) (es : List Entry) (e : Entry) : Type 0 w
 
 -- an entry that is held in a list is its first one, or is held after it
 pub held_at : (n s : ℕ) (d : Entry) (es : List Entry) (e : Entry) → entry_of n s (d ∷ es) ≡ Some e → IsHeld n s d es e
-held_at n s d es e held = elim (cases_Bool (n == s)) [
-  | inl equal ↦
-      let is : Some d ≡ Some e = sym (ap (λ b. cond b (Some d) (entry_of n (s + 1) es)) equal) ∙ held in
-      at_head equal (eqb-true n s equal) cc
-  | inr other ↦ in_tail other (sym (ap (λ b. cond b (Some d) (entry_of n (s + 1) es)) other) ∙ held)
-]
+held_at n s d es e held = grind arith
 
 -- the number of an entry that is held lies among those of the list
 pub entry_of-from : (n s : ℕ) (es : List Entry) (e : Entry) → entry_of n s es ≡ Some e → (s ≤ n) × (n < s + length es)

@@ -42,19 +42,12 @@ stores-below n s es le =
     (λ st s e. store-at_if (is_store e.instruction) s (store_at s e) refl) n tt s es le)
 
 pub stores-cut : (n s : ℕ) (es : List Entry) → older_than n (stores_of s es) ≡ stores_of s (entries_below n s es)
-stores-cut n s es =
-    ap (older_than n) (stores-gathered s es) ∙
-    gathered-cut nothing own_store (λ x. x.seq)
-    (λ st s e. store-at_if (is_store e.instruction) s (store_at s e) refl) n tt s es ∙
-    sym (stores-gathered s (entries_below n s es))
+stores-cut n s es = grind (arith, stores-gathered, gathered-cut, nothing, store-at_if)
 
 -- another prediction leaves the stores as they are
 pub stores-predicting : (next_pc n s : ℕ) (es : List Entry) →
     stores_of s (with_entry (predicting next_pc) n s es) ≡ stores_of s es
-stores-predicting next_pc n s es =
-    stores-gathered s (with_entry (predicting next_pc) n s es) ∙
-    gathered-same nothing own_store (predicting next_pc) (λ st s e. refl) (λ st s e. refl) n tt s es ∙
-    sym (stores-gathered s es)
+stores-predicting next_pc n s es = grind (arith, stores-gathered, gathered-same, nothing)
 
 -- ---- which of the stores have retired
 silent_state : (b : Option Message) → is_committed_state (store_of_broadcast b) ≡ false
@@ -139,15 +132,10 @@ module _ (n : ℕ) (news : StoreState) where
 
   pub answered-older : (ss : List Store) (m : ℕ) → m ≤ n → AreBelow (λ (x : Store). x.seq) m ss →
       map (answered n news) ss ≡ ss
-  answered-older ss m le older =
-      answered-other ss (λ k d lt. ne_eqb _ n (λ same. let below = older k d lt in
-      absurd (omega (arith, same, below, le))))
+  answered-older ss m le older = grind (arith, answered-other)
 
   answered-later : (s : ℕ) (es : List Entry) → n < s → map (answered n news) (stores_of s es) ≡ stores_of s es
-  answered-later s es lt =
-      answered-other (stores_of s es)
-      (λ k d within. ne_eqb _ n
-      (λ same. let from = stores-from s s es (omega arith) k d within in absurd (omega (arith, same, from, lt))))
+  answered-later s es lt = grind (arith, answered-other, stores-from)
 
 module _ (n cycle : ℕ) (message : Message) where
   abbrev news : StoreState
@@ -181,9 +169,7 @@ older_are_others n s ss le older =
     λ k d lt. ne_eqb _ n (λ same. let below = older k d lt in absurd (omega (arith, same, below, le)))
 
 later_are_others : (n s : ℕ) (es : List Entry) → n < s → AreOthers n (stores_of s es)
-later_are_others n s es lt =
-    λ k d within. ne_eqb _ n
-    (λ same. let from = stores-from s s es (omega arith) k d within in absurd (omega (arith, same, from, lt)))
+later_are_others n s es lt = grind (arith, stores-from)
 
 are_others_with : (n : ℕ) (b : Bool) (x : Store) (xs : List Store) → (x.seq == n) ≡ false → AreOthers n xs →
     AreOthers n (cond b (x ∷ xs) xs)
@@ -216,9 +202,7 @@ pub queue-answered : (n cycle : ℕ) (message : Message) (committed : List Store
     → map (answered n (store_of_message message.store)) (committed ++ stores_of s es)
     ≡ committed ++ stores_of s (with_entry (finished message cycle) n s es)
 queue-answered n cycle message committed s es e older held silent =
-    map-append (answered n (store_of_message message.store)) committed (stores_of s es) ∙
-    (λ i. answered-older n (store_of_message message.store) committed s
-    (entry_of-from n s es e held).0 older i ++ stores-answered n cycle message s es e held silent i)
+    grind (arith, map-append, answered, answered-older, entry_of-from, stores-answered)
 
 -- the queue without the stores from a number on that have not retired
 pub queue-squashed : (n : ℕ) (committed : List Store) (s : ℕ) (es : List Entry) → s ≤ n →

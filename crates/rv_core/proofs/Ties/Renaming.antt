@@ -47,19 +47,13 @@ producers-from s es =
     (omega arith))
 
 pub producers-length : (s : ℕ) (es : List Entry) → length (producers_of s es) ≤ length es
-producers-length s es =
-    rw (producers-gathered s es)
-    (gathered-length nothing own_producer (λ st s e. producer-one s (target_of_word e.instruction)) tt s es)
+producers-length s es = grind (arith, producers-gathered, gathered-length, nothing, producer-one)
 
 -- a change that keeps the instruction
 pub producers-same : (f : Entry → Entry) → ((e : Entry) → (f e).instruction ≡ e.instruction) →
     (n s : ℕ) (es : List Entry) →
     producers_of s (with_entry f n s es) ≡ producers_of s es
-producers-same f same n s es =
-    producers-gathered s (with_entry f n s es) ∙
-    gathered-same nothing own_producer f (λ st s e. ap (λ o. producer_of s (target_of_word o)) (same e))
-    (λ st s e. refl) n tt s es ∙
-    sym (producers-gathered s es)
+producers-same f same n s es = grind (arith, producers-gathered, gathered-same, nothing)
 
 -- ---- checkpoints, one after another
 abbrev own_checkpoint : List Producer → ℕ → Entry → List Checkpoint
@@ -100,41 +94,22 @@ checkpoints-below n s es le =
     (record { seq = s; producers = producers_with older s e }) s refl) n [] s es le)
 
 pub checkpoints-length : (s : ℕ) (es : List Entry) → length (checkpoints_of [] s es) ≤ length es
-checkpoints-length s es =
-    rw (checkpoints-gathered [] s es)
-    (gathered-length producers_with own_checkpoint
-    (λ older s e. checkpoint-one (is_branch_or_jump e.instruction)
-    (record { seq = s; producers = producers_with older s e })) [] s es)
+checkpoints-length s es = grind (arith, checkpoints-gathered, gathered-length, checkpoint-one)
 
 checkpoints-cut : (n : ℕ) (older : List Producer) (s : ℕ) (es : List Entry) →
     below (λ (c : Checkpoint). c.seq) n (checkpoints_of older s es) ≡ checkpoints_of older s (entries_below n s es)
-checkpoints-cut n older s es =
-    ap (below (λ (c : Checkpoint). c.seq) n) (checkpoints-gathered older s es) ∙
-    gathered-cut producers_with own_checkpoint (λ c. c.seq)
-    (λ older s e. checkpoint-at (is_branch_or_jump e.instruction)
-    (record { seq = s; producers = producers_with older s e }) s refl) n older s es ∙
-    sym (checkpoints-gathered older s (entries_below n s es))
+checkpoints-cut n older s es = grind (arith, below, checkpoints-gathered, gathered-cut, checkpoint-at)
 
 checkpoints-same : (f : Entry → Entry) → ((e : Entry) → (f e).instruction ≡ e.instruction) →
     (n : ℕ) (older : List Producer) (s : ℕ) (es : List Entry) →
     checkpoints_of older s (with_entry f n s es) ≡ checkpoints_of older s es
-checkpoints-same f same n older s es =
-    checkpoints-gathered older s (with_entry f n s es) ∙
-    gathered-same producers_with own_checkpoint f
-    (λ older s e. ap (λ o. cond (is_branch_or_jump o)
-    (record { seq = s; producers = older ++ producer_of s (target_of_word o) } ∷ []) []) (same e))
-    (λ older s e. ap (λ o. older ++ producer_of s (target_of_word o)) (same e)) n older s es ∙
-    sym (checkpoints-gathered older s es)
+checkpoints-same f same n older s es = grind (arith, checkpoints-gathered, gathered-same)
 
 -- ---- a change of one instruction that keeps what it is
 -- a change of an entry that keeps its instruction leaves the rename map as it is
 pub renaming-same : (f : Entry → Entry) → ((e : Entry) → (f e).instruction ≡ e.instruction) →
     (n : ℕ) (values : Values) (rob : ReorderBuffer) → renaming_of values (changed f n rob) ≡ renaming_of values rob
-renaming-same f same n values rob = λ i. record {
-  capacity = values.rob;
-  producers = producers-same f same n rob.retired rob.entries i;
-  checkpoints = cond (mends_early values.recovery) (checkpoints-same f same n [] rob.retired rob.entries i) [];
-}
+renaming-same f same n values rob = grind (arith, producers-same, checkpoints-same)
 
 -- ---- dispatch
 with_target-is : (n : ℕ) (target : Option ℕ) (m : Renaming) →
@@ -155,18 +130,7 @@ pub renaming-push : (values : Values) (rob : ReorderBuffer) (e : Entry) →
     renaming_of values (pushed e rob)
     ≡ with_jump (mends_early values.recovery && is_branch_or_jump e.instruction) (next_number rob)
     (with_target (next_number rob) (target_of_word e.instruction) (renaming_of values rob))
-renaming-push values rob e =
-    let n = next_number rob in
-    let early = mends_early values.recovery in
-    (λ i. record {
-      capacity = values.rob;
-      producers = producers-push rob.retired n rob.entries e refl i;
-      checkpoints = cond early (checkpoints-push rob.retired n rob.entries e refl i) [];
-    }) ∙
-    sym (with_jump-is early (is_branch_or_jump e.instruction) n values.rob
-    (producers_with (producers_of rob.retired rob.entries) n e) (checkpoints_of [] rob.retired rob.entries)) ∙
-    sym (ap (with_jump (early && is_branch_or_jump e.instruction) n)
-    (with_target-is n (target_of_word e.instruction) (renaming_of values rob)))
+renaming-push values rob e = grind (arith, producers-push, checkpoints-push, with_jump-is, with_target-is)
 
 -- none of none
 pub no_checkpoints : (early : Bool) → (let none : List Checkpoint = [] in cond early none none) ≡ []
@@ -182,12 +146,8 @@ checkpoints_length-early early cs = grind arith
 -- where the reorder buffer has room, so has the rename map
 pub can_define : (values : Values) (rob : ReorderBuffer) → length rob.entries < values.rob →
     CanDefine (next_number rob) (renaming_of values rob)
-can_define values rob room = (
-  omega (arith, room, producers-length rob.retired rob.entries),
-  producers-below (next_number rob) rob.retired rob.entries (omega arith),
-  checkpoints_below-early (mends_early values.recovery) (next_number rob) (checkpoints_of [] rob.retired rob.entries)
-      (checkpoints-below (next_number rob) rob.retired rob.entries (omega arith)),
-)
+can_define values rob room =
+    grind (arith, producers-length, producers-below, checkpoints_below-early, checkpoints-below)
 
 -- there is room for a checkpoint, where there is room for an instruction
 pub can_checkpoint : (values : Values) (rob : ReorderBuffer) (target : Option ℕ) → length rob.entries < values.rob →
@@ -240,11 +200,4 @@ pub renaming-restored : (values : Values) (rob : ReorderBuffer) (n : ℕ) (e : E
     mends_early values.recovery ≡ true →
     entry_of n rob.retired rob.entries ≡ Some e → is_branch_or_jump e.instruction ≡ true
     → restored n (renaming_of values rob) ≡ renaming_of values (cut_from (n + 1) rob)
-renaming-restored values rob n e early held jump =
-    let s = rob.retired in
-    let es = rob.entries in
-    rw early (λ i. record {
-      capacity = values.rob;
-      producers = producers_at-jump n (producers_of s es) [] s es e held jump i;
-      checkpoints = checkpoints-cut (n + 1) [] s es i;
-    })
+renaming-restored values rob n e early held jump = grind (arith, producers_at-jump, checkpoints-cut)

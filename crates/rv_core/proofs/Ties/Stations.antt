@@ -1,15 +1,15 @@
 -- The reservation stations are what the instructions in flight determine, through a dispatch, a broadcast and a squash.
 use Rattle.rv_core.proofs.Words.{◌≡◌, ℕ, ◌+◌, ◌<◌, ◌≤◌, Bool, true, false, cond, ◌&&◌, List, [], ◌∷◌, ◌++◌, map, length}
-use Rattle.rv_core.proofs.Words.{◌==◌, slice_index_or, Some, None, All, filter, Option, sym, refl, ap, ◌∙◌, subst}
-use Rattle.rv_core.proofs.Words.{append-nil, arith, eq-eqb, ne_eqb, and_right, eqb-false, map-append, All-cons}
-use Rattle.rv_core.proofs.Words.{is_same-own, is_of_kind, kind_of_word, sources_of, at_kind, for_each, Message, Instr}
-use Rattle.rv_core.proofs.Words.{Kind, PerKind, Values, finished, predicting, ReorderBuffer, changed, entries_below}
-use Rattle.rv_core.proofs.Words.{pushed, with_entry, Entry, Stage, is_stationed, stage_by, broadcast_of, is_waiting}
-use Rattle.rv_core.proofs.Words.{AreBelow, below, by_kind, at_kind-by_kind, by_kind-same, with_kind-by_kind, Pool}
-use Rattle.rv_core.proofs.Words.{squashed_pool, woken_pool, woken, woken_operand, Station, cut_from, entry_of}
-use Rattle.rv_core.proofs.Words.{next_number, with_instruction, with_station, RegisterStatus, operand_by, operand_of}
-use Rattle.rv_core.proofs.Words.{pool_of_kind, stations_of, status_after, status_with, values_in, waiting_at}
-use Rattle.rv_core.proofs.Words.{waiting_from, waiting_of}
+use Rattle.rv_core.proofs.Words.{◌==◌, slice_index_or, Some, None, All, filter, Option, sym, refl, ap, ◌∙◌, append-nil}
+use Rattle.rv_core.proofs.Words.{arith, eq-eqb, ne_eqb, and_right, eqb-false, map-append, All-cons, is_same-own}
+use Rattle.rv_core.proofs.Words.{is_of_kind, kind_of_word, sources_of, at_kind, for_each, Message, Instr, Kind, PerKind}
+use Rattle.rv_core.proofs.Words.{Values, finished, predicting, ReorderBuffer, changed, entries_below, pushed}
+use Rattle.rv_core.proofs.Words.{with_entry, Entry, Stage, is_stationed, stage_by, broadcast_of, is_waiting, AreBelow}
+use Rattle.rv_core.proofs.Words.{below, by_kind, at_kind-by_kind, by_kind-same, with_kind-by_kind, Pool, squashed_pool}
+use Rattle.rv_core.proofs.Words.{woken_pool, woken, woken_operand, Station, cut_from, entry_of, next_number}
+use Rattle.rv_core.proofs.Words.{with_instruction, with_station, RegisterStatus, operand_by, operand_of, pool_of_kind}
+use Rattle.rv_core.proofs.Words.{stations_of, status_after, status_with, values_in, waiting_at, waiting_from}
+use Rattle.rv_core.proofs.Words.{waiting_of}
 use Rattle.rv_rob.specs.declared.entry.Stage.TheVariants as stage
 use Rattle.rv_stations.specs.Waiting.{seq_of}
 use Rattle.rv_core.proofs.Ties.Entries.{at_head, held_at, in_tail}
@@ -52,17 +52,11 @@ module _ (unit : Kind) where
 
   waiting-cut : (n : ℕ) (status : RegisterStatus) (s : ℕ) (es : List Entry) →
       below seq_of n (waiting_from unit status s es) ≡ waiting_from unit status s (entries_below n s es)
-  waiting-cut n status s es =
-      ap (below seq_of n) (waiting-gathered status s es) ∙
-      gathered-cut status_with own_waiting seq_of (λ st s e. waiting-at st s e e.instruction) n status s es ∙
-      sym (waiting-gathered status s (entries_below n s es))
+  waiting-cut n status s es = grind (arith, below, waiting-gathered, gathered-cut, waiting-at)
 
   waiting-predicting : (next_pc n : ℕ) (status : RegisterStatus) (s : ℕ) (es : List Entry) →
       waiting_from unit status s (with_entry (predicting next_pc) n s es) ≡ waiting_from unit status s es
-  waiting-predicting next_pc n status s es =
-      waiting-gathered status s (with_entry (predicting next_pc) n s es) ∙
-      gathered-same status_with own_waiting (predicting next_pc) (λ st s e. refl) (λ st s e. refl) n status s es ∙
-      sym (waiting-gathered status s es)
+  waiting-predicting next_pc n status s es = grind (arith, waiting-gathered, gathered-same)
 
   -- ---- how many there are
   count-at : (status : RegisterStatus) (s : ℕ) (e : Entry) (o : Option Instr) (es : List Entry) (ws : List Station) →
@@ -114,10 +108,7 @@ module _ (unit : Kind) where
     -- after an instruction with another number
     woken-with : (status : RegisterStatus) (s : ℕ) (e : Entry) → (s == n) ≡ false →
         woken_status (status_with status s e) ≡ status_with (woken_status status) s e
-    woken-with status s e other = λ i register. woken-one status s e register other i where
-      woken-one : (status : RegisterStatus) (s : ℕ) (e : Entry) (register : ℕ) → (s == n) ≡ false →
-          woken_operand n value (status_with status s e register) ≡ status_with (woken_status status) s e register
-      woken-one status s e register other = grind (arith, woken-by)
+    woken-with status s e other = grind (arith, woken-by)
 
     -- instructions that are all younger
     woken-later : (status : RegisterStatus) (s : ℕ) (es : List Entry) → n < s →
@@ -135,12 +126,7 @@ module _ (unit : Kind) where
       -- after the instruction itself
       woken-own : (status : RegisterStatus) (s : ℕ) (e : Entry) → (s == n) ≡ true → broadcast_of e.stage ≡ None →
           woken_status (status_with status s e) ≡ status_with (woken_status status) s (finished message cycle e)
-      woken-own status s e equal silent = λ i register. woken-one status s e register equal silent i where
-        woken-one : (status : RegisterStatus) (s : ℕ) (e : Entry) (register : ℕ) → (s == n) ≡ true →
-            broadcast_of e.stage ≡ None →
-            woken_operand n value (status_with status s e register)
-            ≡ status_with (woken_status status) s (finished message cycle e) register
-        woken-one status s e register equal silent = grind arith
+      woken-own status s e equal silent = grind (arith, finished)
 
       pub waiting-woken : (status : RegisterStatus) (s : ℕ) (es : List Entry) (e : Entry) → entry_of n s es ≡ Some e →
           is_waiting e.stage ≡ false → broadcast_of e.stage ≡ None
@@ -183,11 +169,7 @@ stations_by values registers rob change new is =
 -- the stations after a squash are those of the instructions that are left
 pub stations-squashed : (values : Values) (registers : List ℕ) (rob : ReorderBuffer) (n : ℕ) →
     for_each (squashed_pool n) (stations_of values registers rob) ≡ stations_of values registers (cut_from n rob)
-stations-squashed values registers rob n =
-    stations_by values registers rob (squashed_pool n) (cut_from n rob) (λ k i. record {
-      waiting = waiting-cut k n (values_in registers) rob.retired rob.entries i;
-      capacity = (at_kind k values.kinds).stations;
-    })
+stations-squashed values registers rob n = grind (arith, stations_by, waiting-cut)
 
 -- the stations that a result wakes are those of the instructions once it is known
 pub stations-woken : (values : Values) (registers : List ℕ) (rob : ReorderBuffer) (n cycle : ℕ)
@@ -206,19 +188,12 @@ stations-woken values registers rob n cycle message e held busy silent =
 -- another prediction leaves the stations as they are
 pub stations-predicting : (values : Values) (registers : List ℕ) (rob : ReorderBuffer) (n next_pc : ℕ) →
     stations_of values registers (changed (predicting next_pc) n rob) ≡ stations_of values registers rob
-stations-predicting values registers rob n next_pc =
-    stations_by values registers (changed (predicting next_pc) n rob) (λ pool. pool) rob (λ k i. record {
-      waiting = waiting-predicting k next_pc n (values_in registers) rob.retired rob.entries i;
-      capacity = (at_kind k values.kinds).stations;
-    })
+stations-predicting values registers rob n next_pc = grind (arith, stations_by, changed, waiting-predicting)
 
 -- every number in a station is below that of the next instruction
 pub stations-below : (values : Values) (registers : List ℕ) (rob : ReorderBuffer) (k : Kind) →
     AreBelow seq_of (next_number rob) (at_kind k (stations_of values registers rob)).waiting
-stations-below values registers rob k =
-    subst (λ (pool : Pool). AreBelow seq_of (next_number rob) pool.waiting)
-    (sym (at_kind-by_kind (pool_of_kind values registers rob) k))
-    (waiting-below k (next_number rob) (values_in registers) rob.retired rob.entries (omega arith))
+stations-below values registers rob k = grind (arith, at_kind-by_kind, waiting-below)
 
 -- ---- dispatch
 nothing_more : (pool : Pool) → pool ≡ record pool { waiting = pool.waiting ++ [] }
@@ -229,9 +204,7 @@ abbrev with_each : (Kind → List Station) → PerKind Pool → PerKind Pool
 with_each more pools = by_kind (λ k. record (at_kind k pools) { waiting = (at_kind k pools).waiting ++ more k })
 
 with_none : (pools : PerKind Pool) → pools ≡ with_each (λ k. []) pools
-with_none pools =
-    by_kind-same (λ k. at_kind k pools) (λ k. record (at_kind k pools) { waiting = (at_kind k pools).waiting ++ [] })
-    (λ k. nothing_more (at_kind k pools))
+with_none pools = grind (arith, by_kind-same, nothing_more)
 
 -- the stage in which an instruction enters
 abbrev first_stage_of : Option Kind → Bool → ℕ → Message → Stage
@@ -259,16 +232,4 @@ pub stations-push : (values : Values) (registers : List ℕ) (rob : ReorderBuffe
     ≡ with_instruction (status_after (values_in registers) rob.retired rob.entries) (next_number rob) e.pc e.instruction
     (stations_of values registers rob)
 stations-push values registers rob e serialising cycle message at =
-    let n = next_number rob in
-    let status : RegisterStatus = status_after (values_in registers) rob.retired rob.entries in
-    by_kind-same (pool_of_kind values registers (pushed e rob))
-    (λ k. record (pool_of_kind values registers rob k) {
-      waiting =
-          (pool_of_kind values registers rob k).waiting ++ waiting_at k status n e e.instruction;
-    })
-    (λ k i. record {
-      waiting = waiting-push k (values_in registers) rob.retired n rob.entries e refl i;
-      capacity = (at_kind k values.kinds).stations;
-    }) ∙
-    sym (with_instruction-is status n e e.instruction serialising cycle message
-    (stations_of values registers rob) refl at)
+    grind (arith, by_kind-same, pushed, waiting-push, with_instruction-is)

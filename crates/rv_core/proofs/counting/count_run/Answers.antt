@@ -1,16 +1,12 @@
 use Rattle.rv_core.proofs.Words.{◌+◌, ap, ◌∙◌, arith, Exhausted, Limit, None, Progress}
-use Rattle.rv_core.proofs.CountedRun.{HasTaken, counted_to, counted_to_stop, counting_nothing}
-use Rattle.rv_core.proofs.CountedRun.{counting_on, room_to_count, sorts_fit, taken_fit, uncounted}
+use Rattle.rv_core.proofs.CountedRun.{HasTaken, counted_to, counted_to_stop, counting_nothing, counting_on}
+use Rattle.rv_core.proofs.CountedRun.{room_to_count, sorts_fit, taken_fit, uncounted}
 use Rattle.rv_watch.proofs.Shown.{bounded_so_far, so_many_shown}
 use Rattle.rv_core.proofs.Exhausted.{all_done, cycle_left}
 use Rattle.rv_core.proofs.counting.count_run.Goals as goal
 
 pub loop-init : goal.loop-init
-loop-init g c = (
-  counting_nothing c.args.arrivals.now _ c.new-progress.result c.counting-steps.result c.new-progress.ensures
-      c.counting-steps.ensures,
-  ap (λ (p : Progress). p.cycles) c.new-progress.ensures,
-)
+loop-init g c = grind (arith, counting_nothing)
 
 pub run_cycle-requires-clause-bounded : goal.run_cycle-requires-clause-bounded
 run_cycle-requires-clause-bounded g c =

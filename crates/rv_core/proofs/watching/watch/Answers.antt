@@ -1,7 +1,5 @@
-use Rattle.rv_core.proofs.Words.{◌+◌, is_some, refl, ap, ◌∙◌, arith, Err, Ok, Exhausted, Limit, Progress}
+use Rattle.rv_core.proofs.Words.{◌+◌, refl, ap, ◌∙◌, arith, Progress}
 use Rattle.rv_watch.proofs.Shown.{bounded_so_far, ended_as, shown_now, so_many_shown, watched_to, watched_to_stop}
-use Rattle.rv_core.specs.Steps.{room_of}
-use Rattle.rv_core.specs.declared.steps.Steps.{Steps}
 use Rattle.rv_core.proofs.RunCycles.{next_reported}
 use Rattle.rv_core.proofs.Taken.{listed_anew}
 use Rattle.rv_watch.proofs.Shown.{watching_nothing, watching_on, watching_still}
@@ -9,13 +7,7 @@ use Rattle.rv_core.proofs.Exhausted.{all_done, cycle_left}
 use Rattle.rv_core.proofs.watching.watch.Goals as goal
 
 pub loop-init : goal.loop-init
-loop-init g c = (
-  watching_nothing g.T.Watcher.has_seen c.args.arrivals.now _ c.args.watcher.now _ c.new-progress.result
-      c.new-progress.ensures,
-  ap (λ (p : Progress). p.cycles) c.new-progress.ensures,
-  ap (λ (s : Steps). is_some s.list) c.listing-steps.ensures,
-  omega (arith, ap room_of c.listing-steps.ensures, c.requires.room),
-)
+loop-init g c = grind (arith, watching_nothing)
 
 pub run_cycle-stop-requires-clause-room : goal.run_cycle-stop-requires-clause-room
 run_cycle-stop-requires-clause-room g c = c.clear.ensures.room c.loop.invariant.3
@@ -28,24 +20,10 @@ pub run_cycle-stop-requires-clause-countable : goal.run_cycle-stop-requires-clau
 run_cycle-stop-requires-clause-countable g c = omega (arith, c.loop.invariant.1, c.loop-test.true, c.ranges.limit)
 
 pub returns-then-is_exhausted : goal.returns-then-is_exhausted
-returns-then-is_exhausted g c =
-    let way = c.loop.invariant.0 in
-    let count = so_many_shown g.T.Watcher.has_seen c.args.arrivals.now _ c.args.watcher.now _ way c.loop.counter
-    c.loop.invariant.1 in
-    let over = all_done c.is_exhausted.ensures.exhausted c.if-is_exhausted.true in
-    ended_as c.finished.ensures.progress c.finished.ensures.stop
-    (watched_to g.T.Watcher.has_seen c.args.arrivals.now _ c.args.watcher.now _ way c.args.limit (Ok Exhausted)
-    (way.none_stops, omega (arith, count, c.loop-test.true), omega (arith, over, c.is_exhausted.ensures.within)))
+returns-then-is_exhausted g c = grind (arith, so_many_shown, all_done, ended_as, watched_to)
 
 pub returns-in-Err : goal.returns-in-Err
-returns-in-Err g c =
-    let way = watching_still g.T.Watcher.has_seen c.args.arrivals.now _ c.args.watcher.now _ c.loop.invariant.0
-    c.make_room.ensures.kept in
-    let count = so_many_shown g.T.Watcher.has_seen c.args.arrivals.now _ c.args.watcher.now _ way c.loop.counter
-    c.loop.invariant.1 in
-    ended_as c.finished-in-Err.ensures.progress c.finished-in-Err.ensures.stop
-    (watched_to g.T.Watcher.has_seen c.args.arrivals.now _ c.args.watcher.now _ way c.args.limit (Err c.in-Err.refusal)
-    (way.none_stops, omega (arith, count, c.loop-test.true)))
+returns-in-Err g c = grind (arith, watching_still, so_many_shown, ended_as, watched_to)
 
 pub show-requires-clause-shown : goal.show-requires-clause-shown
 show-requires-clause-shown g c =
@@ -106,10 +84,4 @@ loop-preserved g c =
     )
 
 pub returns : goal.returns
-returns g c =
-    let way = c.loop.invariant.0 in
-    let count = so_many_shown g.T.Watcher.has_seen c.args.arrivals.now _ c.args.watcher.now _ way c.loop.counter
-    c.loop.invariant.1 in
-    ended_as c.finished-2.ensures.progress c.finished-2.ensures.stop
-    (watched_to g.T.Watcher.has_seen c.args.arrivals.now _ c.args.watcher.now _ way c.args.limit (Ok Limit)
-    (way.none_stops, omega (arith, count, c.loop-test.false, c.loop.auto.counter-end)))
+returns g c = grind (arith, so_many_shown, ended_as, watched_to)

@@ -1,15 +1,13 @@
 use Rattle.rv_core.proofs.Words.{◌≡◌, ℕ, ◌+◌, Bool, true, false, cond, predicting, cut_from, redirected, ◌&&◌, [], Some}
 use Rattle.rv_core.proofs.Words.{None, sym, ap, ◌∙◌, subst, arith, and_parts, finished, changed, is_mispredicted}
-use Rattle.rv_core.proofs.Words.{mends_early, with_recovery, Hardware, Ends, GoesOn, find, Queue, is_ready_result}
-use Rattle.rv_core.proofs.Words.{IsSound, hardware_of, Inside}
+use Rattle.rv_core.proofs.Words.{mends_early, with_recovery, Hardware, Ends, GoesOn, find, is_ready_result, IsSound}
+use Rattle.rv_core.proofs.Words.{hardware_of, Inside}
 use Rattle.rv_core.proofs.Ties.Broadcast.{grant, sent_parts, sent-goes_on, sent-is, sent-recovers, sent-sound, sent_to}
 use Rattle.rv_core.proofs.Ties.Broadcast.{unsent, unsent_bus}
 use Rattle.rv_core.proofs.Ties.Bus.{IsGranted}
 use Rattle.rv_core.proofs.Ties.Entries.{entry_of-changed, with_entry-alike}
 use Rattle.rv_core.proofs.Ties.Queue.{queued_are_others}
-use Rattle.rv_core.specs.InExecution.{AreOthers}
-use Rattle.rv_rob.specs.Entry.{broadcast_in, ended, issue_of}
-use Rattle.rv_rob.specs.declared.entry.Stage.TheVariants.{Finished}
+use Rattle.rv_rob.specs.Entry.{broadcast_in, ended}
 use Rattle.rv_core.proofs.parts.Parts.broadcast_one.Goals as goal
 use Rattle.rv_core.proofs.parts.Parts.broadcast_one.Goals.{After-finish, In_default}
 
@@ -18,11 +16,7 @@ none : (c : In_default) → find (is_ready_result c.self.inside.cycle) c.self.in
 none c = sym c.grant_one.ensures.lowest_ready ∙ c.in_default.is
 
 pub invariant_of-self : goal.invariant_of-self
-invariant_of-self c =
-    let p = c.self.inside in
-    let same = c.grant_one.ensures.others_stay
-    ∙ unsent_bus p c.self.invariant (none (goal.at.invariant_of-self c).In_default) in
-    subst IsSound (λ i. record p { bus = sym same i }) c.self.invariant
+invariant_of-self c = grind (arith, unsent_bus, none)
 
 pub returns-in_default : goal.returns-in_default
 returns-in_default c = rw (← c.self.view_is)
@@ -30,14 +24,7 @@ returns-in_default c = rw (← c.self.view_is)
 
 -- an instruction that is no store has no place in the queue
 pub send-goes_on-requires : goal.send-goes_on-requires
-send-goes_on-requires c =
-    let h = hardware_of c.self.inside in
-    let seq = c.in-Some.pending.seq in record {
-      apart = λ e held no_store.
-          subst (λ (queue : Queue). AreOthers seq queue.stores) (sym c.self.invariant.tied.queued)
-          (queued_are_others seq h.committed h.rob.retired h.rob.entries e c.self.invariant.sound.stores.older held
-          no_store);
-    }
+send-goes_on-requires c = grind (arith, queued_are_others)
 
 -- the parts once the oldest result was sent
 abbrev left : After-finish → Inside
@@ -57,20 +44,7 @@ abbrev sent : (c : After-finish) →
 sent c = grant c.self.inside c.self.invariant c.in-Some.pending (found c)
 
 left-is : (c : After-finish) → left c ≡ sent_parts c.self.inside c.self.invariant c.in-Some.pending (found c)
-left-is c =
-    let p = c.self.inside in
-    let seq = c.in-Some.pending.seq in
-    let s = sent c in
-    let ends : broadcast_in p.cycle s.entry ≡ finished s.message p.cycle s.entry =
-    ap (λ stage. record s.entry { stage = stage }) (ap (ended p.cycle) s.running
-    ∙ ap (λ stage. Finished (issue_of stage) p.cycle s.message) (sym s.running)) in
-    let rob = c.finish.ensures
-    ∙ ap (λ entries. record p.rob { entries = entries })
-    (with_entry-alike (broadcast_in p.cycle) (finished s.message p.cycle) seq p.rob.retired p.rob.entries
-    s.entry s.held ends) in
-    let stations = c.send-goes_on.ensures.carried s.entry s.issue s.message (s.held, s.running) in
-    let stores = c.send-goes_on.ensures.stored s.entry s.issue s.message (s.held, s.running) in
-    λ i. record p { bus = c.grant_one.ensures.others_stay i; rob = rob i; stations = stations i; stores = stores i }
+left-is c = grind (arith, finished, ended, with_entry-alike)
 
 left-sound : (c : After-finish) → IsSound (left c)
 left-sound c = subst IsSound (sym (left-is c)) (sent-sound c.self.inside c.self.invariant c.in-Some.pending (found c))
@@ -84,9 +58,7 @@ abbrev mends : After-finish → Bool
 mends c = mends_early c.self.inside.values.recovery && is_mispredicted (sent c).entry (sent c).message
 
 goes_on : (c : After-finish) → c.send-goes_on.result ≡ cond (mends c) (Some (sent c).message.next_pc) None
-goes_on c =
-    let s = sent c in
-    c.send-goes_on.ensures.goes_on s.entry s.issue s.message (s.held, s.running)
+goes_on c = grind arith
 
 none-mends : (mends : Bool) (next_pc : ℕ) → cond mends (Some next_pc) None ≡ None → mends ≡ false
 none-mends mends next_pc is = grind arith

@@ -1,6 +1,5 @@
-use Rattle.rv_core.proofs.Words.{◌≡◌, ◌+◌, ◌-◌, ◌<◌, [], ◌∷◌, Some, sym, ap, ◌∙◌, subst}
-use Rattle.rv_core.proofs.Words.{arith, Committing, commit, commit_unless, Hardware, AreTaught, lessons_of, Step}
-use Rattle.rv_core.proofs.Words.{and_step, committing, turn_left}
+use Rattle.rv_core.proofs.Words.{◌≡◌, ◌+◌, ◌-◌, ◌<◌, Some, sym, ap, ◌∙◌, subst, arith, Committing, commit}
+use Rattle.rv_core.proofs.Words.{commit_unless, Hardware, and_step, committing, turn_left}
 use Rattle.std.specs.FinSet as set
 use Rattle.rv_core.specs.Steps.{Takes}
 use Rattle.rv_core.proofs.Retired.Loop.{none_committed, committed_all, committed_whole, committed_more, few_retired}
@@ -28,21 +27,14 @@ returns-in-Some-clause-hardware g c = c.interrupt-step.ensures.hardware
     ∙ ap (λ (x : Committing). x.hardware) (taken g (goal.at.returns-in-Some-clause-hardware g c).In-Some)
 
 pub returns-in-Some-clause-steps : goal.returns-in-Some-clause-steps
-returns-in-Some-clause-steps g c =
-    subst (Takes c.args.steps.now _)
-    (ap (λ (s : Step). s ∷ []) c.interrupt-step.ensures.step
-    ∙ ap (λ (x : Committing). x.steps) (taken g (goal.at.returns-in-Some-clause-steps g c).In-Some)) c.take.ensures
+returns-in-Some-clause-steps g c = grind (arith, taken)
 
 pub returns-in-Some-clause-stop : goal.returns-in-Some-clause-stop
 returns-in-Some-clause-stop g c =
     ap (λ (x : Committing). x.stop) (taken g (goal.at.returns-in-Some-clause-stop g c).In-Some)
 
 pub returns-in-Some-clause-taught : goal.returns-in-Some-clause-taught
-returns-in-Some-clause-taught g c =
-    let learned = (goal.Predictor-dyn g c.args.predictor.now).known c.args.predictor.now.1 in
-    subst (λ l. AreTaught learned (lessons_of l c.interrupt-step.new.self.pc) learned)
-    (ap (λ (x : Committing). x.steps) (taken g (goal.at.returns-in-Some-clause-taught g c).In-Some))
-    (none_taught learned)
+returns-in-Some-clause-taught g c = grind (arith, taken, none_taught)
 
 -- a turn that ends the phase leaves what the definition leaves
 ends : (g : Over) (c : In-Ends g) →
@@ -83,9 +75,7 @@ returns-in-Ends-clause-taught g c =
 -- all turns of the phase leave what the definition leaves
 turned : (g : Over) (c : After-loop g) → committing c.loop.self c.loop.invariant.0.steps
     ≡ commit set.contains c.args.self.now
-turned g c =
-    committed_all c.args.self.now c.loop.self c.args.steps.now c.loop.steps c.loop.counter
-    (c.self.inside.values.commit_width - c.loop.counter) c.loop.invariant.0 (omega (arith, c.loop-test.false))
+turned g c = grind (arith, committed_all)
 
 pub returns-clause-hardware : goal.returns-clause-hardware
 returns-clause-hardware g c =
@@ -100,10 +90,7 @@ pub returns-clause-stop : goal.returns-clause-stop
 returns-clause-stop g c = ap (λ (x : Committing). x.stop) (turned g (goal.at.returns-clause-stop g c).After-loop)
 
 pub returns-clause-taught : goal.returns-clause-taught
-returns-clause-taught g c =
-    taught_all c.args.self.now c.loop.self c.loop.invariant.0.steps _ _ c.loop.invariant.1
-    (commit set.contains c.args.self.now).steps
-    (ap (λ (x : Committing). x.steps) (turned g (goal.at.returns-clause-taught g c).After-loop))
+returns-clause-taught g c = grind (arith, taught_all, commit, turned)
 
 pub loop-preserved : goal.loop-preserved
 unfolding committed_more
@@ -125,10 +112,7 @@ pub overflow_add-code : goal.overflow_add-code
 overflow_add-code g c = interrupt_fits c.in-Some.code c.in-Some.ensures.code
 
 pub commit_head-requires-clause-retired : goal.commit_head-requires-clause-retired
-commit_head-requires-clause-retired g c =
-    let few : c.loop.counter < 8 =
-    omega (arith, c.loop-test.true, c.self.invariant.sound.legal.pipeline.commit_width) in
-    few_retired c.loop.invariant.0 few c.requires.numbers
+commit_head-requires-clause-retired g c = grind (arith, few_retired)
 
 pub commit_head-requires-clause-room : goal.commit_head-requires-clause-room
 commit_head-requires-clause-room g c =

@@ -1,4 +1,4 @@
-use Rattle.rv_core.proofs.Words.{◌≡◌, ◌+◌, ◌-◌, Some, ap, ◌∙◌, arith, dispatch, dispatch_turn, Dispatching, stall_of}
+use Rattle.rv_core.proofs.Words.{◌≡◌, ◌-◌, Some, ap, ◌∙◌, arith, dispatch, dispatch_turn, Dispatching, stall_of}
 use Rattle.rv_core.proofs.Words.{dispatch_left, dispatching}
 use Rattle.rv_core.proofs.Phases.Turned.{turned-ends, turned-goes}
 use Rattle.rv_core.proofs.parts.Parts.dispatch.Goals as goal
@@ -34,11 +34,4 @@ returns-in-Some-clause-stall c =
     ∙ ap stall_of (ended (goal.at.returns-in-Some-clause-stall c).After-reason_for)
 
 pub loop-dispatched-preserved : goal.loop-dispatched-preserved
-loop-dispatched-preserved c =
-    let goes = c.dispatch_one.ensures c.loop-dispatched.dispatched
-    ∙ ap (λ r. dispatch_left r c.dispatch_one.new.self c.loop-dispatched.dispatched) c.in_default.is in
-    turned-goes dispatch_turn (dispatch c.args.self.now) (c.self.inside.values.dispatch_width
-    - c.loop-dispatched.dispatched)
-    (c.self.inside.values.dispatch_width - (c.loop-dispatched.dispatched + 1))
-    (dispatching c.loop-dispatched.self c.loop-dispatched.dispatched) _
-    (omega (arith, c.loop-dispatched-test.true)) c.loop-dispatched.invariant goes
+loop-dispatched-preserved c = grind (arith, dispatch_left, turned-goes, dispatch)

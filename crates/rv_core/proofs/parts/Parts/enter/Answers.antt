@@ -1,7 +1,7 @@
-use Rattle.rv_core.proofs.Words.{◌≡◌, ◌<◌, ◌&&◌, length, None, sym, refl, ap, ◌∙◌, subst, arith, leb-false}
-use Rattle.rv_core.proofs.Words.{is_branch_or_jump, is_store, kind_of_word, target_of_word, pushed, mends_early}
-use Rattle.rv_core.proofs.Words.{entry_of_fetched, reason_of, Hardware, are_full_for, with_instruction, with_jump}
-use Rattle.rv_core.proofs.Words.{with_store, with_target, IsSound, hardware_of, status_after, values_in}
+use Rattle.rv_core.proofs.Words.{◌≡◌, ◌<◌, ◌&&◌, length, None, sym, refl, ap, ◌∙◌, subst, arith, is_branch_or_jump}
+use Rattle.rv_core.proofs.Words.{is_store, kind_of_word, target_of_word, pushed, mends_early, entry_of_fetched}
+use Rattle.rv_core.proofs.Words.{reason_of, Hardware, are_full_for, with_instruction, with_jump, with_store}
+use Rattle.rv_core.proofs.Words.{with_target, IsSound, hardware_of, status_after, values_in}
 use Rattle.rv_core.proofs.Phases.Entered.{entered_parts, entered-is, entered-sound}
 use Rattle.rv_core.proofs.Ties.Dispatch.{Goes, full-is, goes}
 use Rattle.rv_core.proofs.Ties.Queue.{can_enter}
@@ -16,11 +16,7 @@ fails c = goes (hardware_of c.self.inside) c.args.fetched.now (rw (← c.self.vi
 
 -- there is room for another instruction
 room : (c : After-self) → length c.self.inside.rob.entries < c.self.inside.values.rob
-room c = omega (
-  arith,
-  leb-false c.self.inside.rob.capacity (length c.self.inside.rob.entries) (fails c).room,
-  c.self.invariant.sound.entries.capacity,
-)
+room c = grind (arith, fails)
 
 pub station-requires-clause-room : goal.station-requires-clause-room
 station-requires-clause-room c =
@@ -29,19 +25,10 @@ station-requires-clause-room c =
     ∙ (fails (goal.at.station-requires-clause-room c).After-self).station
 
 pub station-requires-clause-youngest : goal.station-requires-clause-youngest
-station-requires-clause-youngest c =
-    let h = hardware_of c.self.inside in
-    λ kind. rw (c.next_number-seq.ensures, c.self.invariant.tied.stationed)
-    (stations-below h.values h.registers h.rob kind)
+station-requires-clause-youngest c = grind (arith, stations-below)
 
 pub enter_store-requires : goal.enter_store-requires
-enter_store-requires c =
-    let h = hardware_of c.self.inside in
-    λ is.
-    let queue = rw is at (fails (goal.at.enter_store-requires c).After-self).queue in
-    rw (c.next_number-seq.ensures, c.self.invariant.tied.queued)
-    (can_enter h.committed h.values.store_queue h.rob c.self.invariant.sound.stores.older
-    (omega (arith, leb-false _ _ queue)))
+enter_store-requires c = grind (arith, fails, can_enter)
 
 pub define_target-requires : goal.define_target-requires
 define_target-requires c =

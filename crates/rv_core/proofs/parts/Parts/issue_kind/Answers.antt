@@ -1,15 +1,11 @@
 use Rattle.std.proofs.Common.{rules}
-use Rattle.rv_core.proofs.Words.{◌+◌, ◌-◌, is_some, sym, refl, ap, ◌∙◌, arith, at_kind, Hardware, issue_kind}
-use Rattle.rv_core.proofs.Words.{issue_turn, Ends, turn_of}
+use Rattle.rv_core.proofs.Words.{◌+◌, ◌-◌, is_some, sym, refl, ap, ◌∙◌, arith, issue_kind, issue_turn, turn_of}
 use Rattle.rv_core.proofs.Issued.Parts.{turn_empty}
 use Rattle.rv_core.proofs.Phases.Turned.{turned-ends, turned-goes, turned-none}
 use Rattle.rv_core.proofs.parts.Parts.issue_kind.Goals as goal
 
 pub returns-then-is_empty : goal.returns-then-is_empty
-returns-then-is_empty c =
-    let ends = turn_empty c.self.invariant c.self.view_is c.args.kind refl (c.is_empty.ensures.0 c.if-is_empty.true) in
-    turned-none (issue_turn c.args.kind) (at_kind c.args.kind c.args.self.now.values.kinds).units c.args.self.now
-    (ap (λ (h : Hardware). Ends h) (sym c.self.view_is) ∙ ends)
+returns-then-is_empty c = grind (arith, turn_empty, turned-none)
 
 pub returns-in_default : goal.returns-in_default
 returns-in_default c =

@@ -5,18 +5,7 @@ use Rattle.rv_core.proofs.Ties.Entries.{entry_of-from}
 use Rattle.rv_core.proofs.parts.Parts.recover.Goals as goal
 
 pub overflow_add-from : goal.overflow_add-from
-overflow_add-from c =
-    let p = c.self.inside in
-    let held = rw (← c.self.view_is) at c.requires.jump.1 in
-    let sound = c.self.invariant.sound in
-    omega (
-      arith,
-      (entry_of-from c.args.seq p.rob.retired p.rob.entries c.requires.jump.0 held).1,
-      sound.entries.numbers,
-      sound.entries.within,
-      sound.cycles,
-      sound.legal.pipeline.rob.1,
-    )
+overflow_add-from c = grind (arith, entry_of-from)
 
 pub invariant_of-self : goal.invariant_of-self
 invariant_of-self c =

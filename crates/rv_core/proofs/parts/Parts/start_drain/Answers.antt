@@ -1,8 +1,8 @@
-use Rattle.rv_core.proofs.Words.{◌≡◌, ◌+◌, Bool, true, false, List, length, Some, None, Option, sym, refl, ap, ◌∙◌}
-use Rattle.rv_core.proofs.Words.{subst, true≢false, arith, StoreAccess, Memory, Contents, access_cost, accessed_sets}
-use Rattle.rv_core.proofs.Words.{oldest_to_drain, with_oldest_draining, Store as QueuedStore, start_drain, with_drained}
-use Rattle.rv_core.proofs.Words.{Hardware, stores_of, IsSome, IsTrue, IsAccess, seen_after, Queue, IsSound, hardware_of}
-use Rattle.rv_core.proofs.Words.{IsDescribedCache, IsSoundHardware, queue_of, Inside}
+use Rattle.rv_core.proofs.Words.{◌≡◌, ◌+◌, Bool, false, List, length, Some, None, Option, sym, refl, ap, ◌∙◌}
+use Rattle.rv_core.proofs.Words.{true≢false, arith, StoreAccess, Memory, Contents, oldest_to_drain}
+use Rattle.rv_core.proofs.Words.{with_oldest_draining, Store as QueuedStore, start_drain, with_drained, Hardware}
+use Rattle.rv_core.proofs.Words.{stores_of, IsSome, IsTrue, IsAccess, Queue, IsSound, hardware_of, IsDescribedCache}
+use Rattle.rv_core.proofs.Words.{IsSoundHardware, queue_of, Inside}
 use Rattle.rv_core.proofs.Phases.Drained.{below_when_draining, draining_after, none_drains, oldest_after}
 use Rattle.rv_core.proofs.Phases.Drained.{oldest_is_legal, retired_when_draining}
 use Rattle.rv_core.proofs.Phases.Stored.{sound_with_cache, parts_with_cache, view_with_cache, with_cache}
@@ -21,12 +21,7 @@ nothing_starts h None can_drain is_given not = refl
 nothing_starts h (Some access) can_drain is_given not = absurd (true≢false (sym (is_given refl) ∙ not))
 
 pub returns-then-not-can_drain : goal.returns-then-not-can_drain
-returns-then-not-can_drain c =
-    nothing_starts c.args.self.now (oldest_to_drain c.args.self.now.committed) c.can_drain.result
-    (λ some. c.can_drain.ensures.1
-    (subst IsSome (ap (λ (h : Hardware). oldest_to_drain h.committed) (sym c.self.view_is)
-    ∙ sym (oldest c.self.invariant)) some))
-    c.if-not-can_drain.true
+returns-then-not-can_drain c = grind (arith, nothing_starts, oldest)
 
 is_access : {p : Inside} (access : StoreAccess) → IsSound p → oldest_to_drain p.stores.stores ≡ Some access →
     IsAccess p.cache access.address (length access.bytes)
@@ -41,11 +36,7 @@ is_access {p = p} access before is =
     )
 
 pub write-cost-requires : goal.write-cost-requires
-write-cost-requires c = record {
-  access = subst (λ l. IsAccess c.self.inside.cache c.start_drain-access.result.address (length l))
-      (sym c.as_slice.ensures.bytes)
-      (is_access c.start_drain-access.result c.self.invariant c.start_drain-access.ensures.access);
-}
+write-cost-requires c = grind (arith, is_access)
 
 is_oldest : {p : Inside} {access : StoreAccess} → IsSound p → oldest_to_drain p.stores.stores ≡ Some access →
     oldest_to_drain (hardware_of p).committed ≡ Some access
@@ -97,19 +88,7 @@ accessed : (c : goal.After-self-1) →
     with_cache c.write-cost.new.self (draining c.self.inside) (c.self.inside.cycle + c.from.result)
     (hardware_of c.self.inside)
     ≡ with_drained c.start_drain-access.result (hardware_of c.self.inside)
-accessed c =
-    let p = c.self.inside in
-    let access = c.start_drain-access.result in
-    let cache : c.write-cost.new.self ≡ (with_drained access (hardware_of p)).cache =
-    c.write-cost.ensures.accessed
-    ∙ (λ i. record p.cache {
-      bytes = seen_after p.cache access.address (c.as_slice.ensures.bytes i);
-      sets = accessed_sets p.cache access.address true;
-      backing = record { layout = c.write-cost.ensures.kept i; bytes = c.write-cost.ensures.evicted i };
-    }) in
-    let port : p.cycle + c.from.result ≡ p.cycle + access_cost p.cache access.address =
-    ap (λ n. p.cycle + n) (c.from.ensures ∙ c.write-cost.ensures.cost) in
-    λ i. with_cache (cache i) (draining p) (port i) (hardware_of p)
+accessed c = grind arith
 
 pub returns : goal.returns
 returns c =

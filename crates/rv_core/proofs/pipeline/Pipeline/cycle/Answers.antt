@@ -1,5 +1,5 @@
-use Rattle.rv_core.proofs.Words.{◌≡◌, ℕ, Bool, true, false, is_some, IfSome, ◌==◌, Some, None, Option, refl, due, Stall}
-use Rattle.rv_core.proofs.Words.{◌^◌, ◌<◌, nat_le, arith, report_of_cycle}
+use Rattle.rv_core.proofs.Words.{◌≡◌, ℕ, Bool, true, false, is_some, IfSome, ◌==◌, Some, None, Option, refl, Stall, ◌^◌}
+use Rattle.rv_core.proofs.Words.{◌<◌, nat_le, arith, report_of_cycle}
 use Rattle.rv_hardware.proofs.AnyPrediction.{any_cycle}
 use Rattle.rv_hardware.proofs.Headline.Cycle.{headline_of_cycle}
 use Rattle.rv_hardware.proofs.Laws.Counts.{IsCounted}
@@ -42,11 +42,7 @@ if_due None taken = tt
 if_due (Some code) taken = taken code refl
 
 pub returns-clause-due_interrupt : goal.returns-clause-due_interrupt
-returns-clause-due_interrupt g c counted =
-    if_due (due c.args.self.now.csrs c.args.lines)
-    (λ code. due_interrupt_is_taken c.args.lines c.args.self.now c.next_cycle.new.self
-    (report_of_cycle c.next_cycle.result) code
-    (any_cycle c.next_cycle.ensures.cycled.cycle))
+returns-clause-due_interrupt g c counted = grind (arith, if_due, due_interrupt_is_taken, any_cycle)
 
 stalls_where : (none_dispatched : Bool) (stall : Option Stall) → IsCounted none_dispatched stall →
     is_some stall ≡ none_dispatched
