@@ -1,7 +1,7 @@
 -- A run under way whose states are written: no cycle yet, one more cycle of it, and its end.
-use Rattle.std.proofs.Common.{◌≡◌, ◌∙◌, ℕ, ◌+◌, ◌<◌, ◌≤◌, ◌==◌, nat_lt, if◌then◌else◌, true, false, List}
-use Rattle.std.proofs.Common.{[], ◌∷◌, ◌++◌, length, map, vec_capacity, Option, refl, sym, ap, arith, inl}
-use Rattle.std.proofs.Common.{inr, append_assoc, append-nil, length-append, le-ltb, ltb-true, ne_eqb}
+use Rattle.std.proofs.Common.{◌≡◌, ◌∙◌, ℕ, ◌+◌, ◌<◌, ◌≤◌, ◌==◌, nat_lt, if◌then◌else◌, true, false, List, [], ◌∷◌, ◌++◌}
+use Rattle.std.proofs.Common.{length, map, vec_capacity, Option, refl, sym, ap, arith, inl, inr, append_assoc}
+use Rattle.std.proofs.Common.{append-nil, length-append, ltb-true}
 use Rattle.std.specs.Prelude.{Bool, codes}
 use Rattle.std.specs.List.{flat_map, fold}
 use Rattle.std.proofs.lemmas.Bool.{cases_Bool}
@@ -39,8 +39,8 @@ use Rattle.rv_states.specs.Json.{Json, also, array, begins, numeral}
 use Rattle.rv_states.specs.Page.{after_lines, before_lines}
 use Rattle.rv_states.specs.Predictor.{after_lessons, predictor_lines, predictor_text, untaught_predictor}
 use Rattle.rv_states.specs.Showing.{IsFollowing, IsShowing, kept_of}
-use Rattle.rv_states.specs.States.{WritesStates, begun_text, cycle_text, cycles_text, head_text, lines_text}
-use Rattle.rv_states.specs.States.{shown_text, states_text, storage_text, taught_by, window_text}
+use Rattle.rv_states.specs.States.{WritesStates, begun_text, cycle_text, cycles_text, head_text, lines_text, shown_text}
+use Rattle.rv_states.specs.States.{states_text, storage_text, taught_by, window_text}
 use Rattle.rv_states.specs.Step.{step_json}
 use Rattle.rv_states.specs.Stop.{stop_line}
 use Rattle.rv_states.specs.declared.form.Form.{Form}
@@ -122,10 +122,7 @@ module _ (from : ℕ) (rows rows' : List Passage) (after : Hardware) (progress :
 -- of a cycle before the window nothing is shown
 shown-early : (from cycles : ℕ) (line window : List ℕ) → cycles < from →
     (if nat_lt from cycles then line else []) ++ (if cycles == from then window else []) ≡ []
-shown-early from cycles line window early =
-    let before : nat_lt from cycles ≡ false = le-ltb from cycles (omega (arith, early)) in
-    let other : (cycles == from) ≡ false = ne_eqb cycles from (λ is. absurd (omega (arith, is, early))) in
-    rw (before, other) refl
+shown-early from cycles line window early = grind arith
 
 -- ---- no cycle yet
 
@@ -158,14 +155,7 @@ module _ {seen : Watched} {cycle : ℕ} {steps : List Step} {after : Hardware} {
     (showing : IsShowing from from' untaught predictor table was failed seen before mid) where
   -- the table can follow it
   pub can_follow : CanFollowCycle steps table
-  can_follow = record {
-    room = showing.followed.room.room;
-    countable = record {
-      fetched = omega (arith, showing.followed.fetched, shown.number, shown.counted);
-      retired = omega (arith, showing.followed.retired, shown.number, shown.counted);
-    };
-    few = shown.few;
-  }
+  can_follow = grind arith
 
   abbrev last : FollowedCycle
   last = cycle_shown seen shown
@@ -206,25 +196,17 @@ module _ {seen : Watched} {cycle : ℕ} {steps : List Step} {after : Hardware} {
 
   -- of a table that knew the numbers before it
   numbers_then : numbers_of (ended had) ≡ numbers_of last.passages
-  numbers_then =
-      numbers_now cycle after.rob after.front steps after.pc had (kept_of seen) showing.followed.numbers
-      ∙ sym (ap numbers_of ended_there)
+  numbers_then = grind (arith, numbers_now, ended_there)
 
   kept_then : numbers_of (still_open (ended had)) ≡ numbers_of (kept_of seen_now)
-  kept_then =
-      numbers_on cycle after.rob after.front steps after.pc had (kept_of seen) showing.followed.numbers
-      ∙ sym (ap numbers_of kept-next)
+  kept_then = grind (arith, numbers_on, kept-next)
 
   others_then : plainly (still_open (ended had)) ≡ plainly (kept_of seen_now)
-  others_then =
-      plain_by_numbers cycle after.rob after.front steps after.pc had (kept_of seen) showing.followed.numbers
-      ∙ sym (ap plainly kept-next)
+  others_then = grind (arith, plain_by_numbers, kept-next)
 
   -- of one that knew the rest, too
   plain_then : from ≤ length seen.moments → plainly (ended had) ≡ plainly last.passages
-  plain_then late =
-      plain_on cycle after.rob after.front steps after.pc had (kept_of seen) (showing.followed.others late)
-      ∙ sym (ap plainly ended_there)
+  plain_then late = grind (arith, plain_on, ended_there)
 
   -- a table that knows the numbers then, and the rest from the window's beginning on
   following_on : (table' : Table) → numbers_of (passages_of table') ≡ numbers_of (still_open (ended had))
@@ -234,23 +216,7 @@ module _ {seen : Watched} {cycle : ℕ} {steps : List Step} {after : Hardware} {
       → vec_capacity table.rows ≤ vec_capacity table'.rows
       → vec_capacity table.interrupts ≤ vec_capacity table'.interrupts → IsFollowing from table' seen_now
   following_on table' numbers others fetched retired few quiet rows interrupts =
-      let one = cycle_counts shown.cycled in
-      let room = showing.followed.room in
-      record {
-        numbers = numbers ∙ kept_then;
-        others = λ late. others (omega (arith, late, longer));
-        fetched = omega (arith, fetched, showing.followed.fetched, one);
-        retired = omega (arith, retired, showing.followed.retired, one);
-        few = few;
-        room = record {
-          room = record {
-            rows = omega (arith, few, rows, room.rows);
-            interrupts = omega (arith, quiet, interrupts, room.interrupts);
-          };
-          rows = omega (arith, rows, room.rows);
-          interrupts = omega (arith, interrupts, room.interrupts);
-        };
-      }
+      grind (arith, cycle_counts, kept_then, longer)
 
   -- the predictor learns its lessons
   module _ (taught : DescribedPredictor) (pc : ℕ) (pc_is : pc ≡ after.pc)

@@ -1,6 +1,6 @@
 -- What the registers give after one more instruction, and the entry at a place of the reorder buffer.
-use Rattle.std.proofs.Common.{◌≡◌, ℕ, zero, suc, ◌+◌, ◌<◌, if◌then◌else◌, List, [], ◌∷◌, ◌++◌}
-use Rattle.std.proofs.Common.{length, take, get_or, slice_get, Some, refl, sym, ap, ◌∙◌, arith}
+use Rattle.std.proofs.Common.{◌≡◌, ℕ, zero, suc, ◌+◌, ◌<◌, if◌then◌else◌, List, [], ◌∷◌, ◌++◌, length, take, get_or}
+use Rattle.std.proofs.Common.{slice_get, Some, refl, sym, ap, ◌∙◌, arith}
 use Rattle.std.proofs.lemmas.List.{length-take-le, take_more}
 use Rattle.std.proofs.lemmas.Option.{get_or_from_slice_get, slice_get_within}
 use Rattle.rv_watch.specs.Registers.{RegisterStatus, operand_by, status_after, status_with}
@@ -59,8 +59,7 @@ pub given_more : (status : RegisterStatus) (rob : ReorderBuffer) (number place :
     after ≡ (if writes e register then operand_by number (broadcast_of e.stage) else before)
     → after ≡ status_after status rob.retired (take (place + 1) rob.entries) register
 given_more status rob number place e register before after is found before_is after_is =
-    after_is ∙ (λ i. if writes e register then operand_by (is i) (broadcast_of e.stage) else before_is i)
-    ∙ sym (status_more status rob.retired rob.entries place e register found)
+    grind (arith, writes, status_more)
 
 -- a place of the array is one of an entry
 pub within_entries : (status : RegisterStatus) (seq : ℕ) (es : List Entry) (place : ℕ) →

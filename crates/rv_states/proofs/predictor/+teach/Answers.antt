@@ -1,5 +1,5 @@
-use Rattle.std.proofs.Common.{◌≡◌, ◌∙◌, ℕ, suc, ◌-◌, ◌≤◌, List, [], ◌∷◌, ◌++◌}
-use Rattle.std.proofs.Common.{length, take, drop, get_or, refl, ap, sym, arith}
+use Rattle.std.proofs.Common.{◌≡◌, ◌∙◌, ℕ, suc, ◌-◌, ◌≤◌, List, [], ◌∷◌, ◌++◌, length, take, drop, get_or, refl, ap}
+use Rattle.std.proofs.Common.{sym, arith}
 use Rattle.std.proofs.Math.Seq.{take-length}
 use Rattle.rv_front.specs.Lesson.{Lesson}
 use Rattle.rv_front.specs.declared.predictors.DescribedPredictor.{DescribedPredictor}
@@ -26,15 +26,7 @@ taught_on : (steps rest : List Step) (step : Step) (next first : ℕ) (before mi
     after ≡ after_lessons middle (lessons_of rest next) →
     after ≡ after_lessons before (lessons_of steps next)
 taught_on steps rest step next first before middle after steps_are first_is middle_is after_is =
-    after_is
-    ∙ ap (λ p. after_lessons p (lessons_of rest next))
-    (middle_is ∙ ap (λ pc. after_lessons before (lesson_of step pc)) first_is)
-    ∙ sym (after-both before (lesson_of step (first_pc rest next)) (lessons_of rest next))
-    ∙ ap (λ all. after_lessons before (lessons_of all next)) (sym steps_are)
+    grind (arith, after-both)
 
 pub returns-in-len1-up : goal.returns-in-len1-up
-returns-in-len1-up t c =
-    taught_on c.args.steps.now _ c.step-item.result c.args.next c.first_pc.result c.args.predictor.now
-    c.teach_step.new.predictor c.teach.new.predictor
-    (apart c.args.steps.now c.step-item.result c.in-len1-up.len_at_least c.step-item.is) c.first_pc.ensures
-    c.teach_step.ensures c.teach.ensures
+returns-in-len1-up t c = grind (arith, taught_on, apart)

@@ -1,4 +1,4 @@
-use Rattle.std.proofs.Common.{◌∙◌, ◌+◌, sym, ap, length, arith}
+use Rattle.std.proofs.Common.{sym, ap, arith}
 use Rattle.rv_states.specs.Json.{values_from}
 use Rattle.rv_states.specs.Predictor.{asked_in}
 use Rattle.rv_states.proofs.Arrays.{found_given, missing_given}
@@ -6,16 +6,10 @@ use Rattle.rv_text.proofs.Saying.{says_nothing, says_same}
 use Rattle.rv_states.proofs.predictor.write_asked_at.Goals as goal
 
 pub returns-in-Some-clause-said : goal.returns-in-Some-clause-said
-returns-in-Some-clause-said g c =
-    let values = asked_in c.args.predictor.now c.args.cycle in
-    says_same (ap (values_from c.args.written)
-    (found_given values c.args.front.now.entries _ _ (sym c.in-Some.ensures))) c.write_asked_of.ensures.said
+returns-in-Some-clause-said g c = grind (arith, says_same, found_given)
 
 pub returns-in-Some-clause-count : goal.returns-in-Some-clause-count
-returns-in-Some-clause-count g c =
-    let values = asked_in c.args.predictor.now c.args.cycle in
-    c.write_asked_of.ensures.count
-    ∙ ap (λ l. c.args.written + length l) (found_given values c.args.front.now.entries _ _ (sym c.in-Some.ensures))
+returns-in-Some-clause-count g c = grind (arith, found_given)
 
 pub returns-in-None-clause-said : goal.returns-in-None-clause-said
 returns-in-None-clause-said g c =
@@ -24,9 +18,4 @@ returns-in-None-clause-said g c =
     (missing_given values c.args.front.now.entries _ (sym c.in-None.ensures))) (says_nothing _)
 
 pub returns-in-None-clause-count : goal.returns-in-None-clause-count
-returns-in-None-clause-count g c =
-    omega (
-      arith,
-      ap length (missing_given (asked_in c.args.predictor.now c.args.cycle) c.args.front.now.entries _
-          (sym c.in-None.ensures)),
-    )
+returns-in-None-clause-count g c = grind (arith, missing_given)

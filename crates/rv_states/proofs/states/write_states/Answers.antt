@@ -6,18 +6,14 @@ use Rattle.rv_states.proofs.OneText.{one_text}
 use Rattle.rv_states.proofs.states.write_states.Goals as goal
 
 pub new-requires : goal.new-requires
-new-requires g c =
-    let legal = (sound c.hardware.invariant.reached).sizes.legal.predictor in
-    (omega (arith, legal.0), omega (arith, legal.1))
+new-requires g c = grind (arith, sound)
 
 pub run_shown-shown-requires-clause-untaught : goal.run_shown-shown-requires-clause-untaught
 run_shown-shown-requires-clause-untaught g c = c.in-Ok-new.ensures
     ∙ ap (λ (h : Hardware). untaught_predictor h.values) (c.hardware.view_is ∙ c.shown-hardware.ensures)
 
 pub returns-then-shown-clause-written : goal.returns-then-shown-clause-written
-returns-then-shown-clause-written g c =
-    let (text, states, wrote) = c.run_shown-shown.ensures in
-    (c.run_shown-shown.result.stop, text, states, rw c.if-shown.true at wrote)
+returns-then-shown-clause-written g c = grind arith
 
 pub returns-else-shown-clause-written : goal.returns-else-shown-clause-written
 returns-else-shown-clause-written g c = let (text, states, wrote) = c.run_shown-shown.ensures in
