@@ -1,6 +1,6 @@
 -- What the cycles of a run are on account of, with one cycle more.
-use Rattle.std.proofs.Common.{◌≡◌, ◌∙◌, ℕ, suc, ◌+◌, List, [], ◌∷◌, ◌++◌, length, count_by}
-use Rattle.std.proofs.Common.{cond, Bool, true, false, Option, None, refl, sym, ap, arith}
+use Rattle.std.proofs.Common.{◌≡◌, ◌∙◌, ℕ, suc, List, [], ◌∷◌, ◌++◌, length, count_by, Option, None, refl, sym, ap}
+use Rattle.std.proofs.Common.{arith}
 use Rattle.std.proofs.lemmas.List.Sums.{sum_by-append}
 use Rattle.rv_isa.specs.declared.lines.Arrival.{Arrival}
 use Rattle.rv_isa.specs.declared.values.Values.{Values}
@@ -12,8 +12,8 @@ use Rattle.rv_passage.specs.Walk.{FollowedCycle, Standing, next_cycle, standing_
 use Rattle.rv_passage.specs.declared.passage.Passage.{Passage}
 use Rattle.rv_passage.proofs.Walk.{last_cycle, walk-push}
 use Rattle.rv_counts.specs.Counts.{one_more}
-use Rattle.rv_sentences.specs.Head.{account_of, accounts_from, accounts_of, last_flusher}
-use Rattle.rv_sentences.specs.Head.{flusher_in, flusher_of, is_idle, itself}
+use Rattle.rv_sentences.specs.Head.{account_of, accounts_from, accounts_of, last_flusher, flusher_in, flusher_of}
+use Rattle.rv_sentences.specs.Head.{is_idle, itself}
 use Rattle.rv_sentences.specs.WordCount.{count_at, with_one}
 use Rattle.rv_sentences.specs.WordNotes.{notes_of}
 use Rattle.rv_sentences.proofs.CountsGrow.{with_last_at}
@@ -68,18 +68,7 @@ module _ {arrivals : List Arrival} {old now : GuidedHardware} {moments : List Mo
   pub idle-push : one_more (is_idle (account_of moment.after rows (flusher_of old.hardware moments)))
       (count_by is_idle (accounts_of old.hardware moments))
       ≡ count_by is_idle (accounts_of old.hardware (moments ++ moment ∷ []))
-  idle-push =
-      let account = account_of moment.after rows (flusher_of old.hardware moments) in
-      let all = accounts_of old.hardware moments in
-      omega (
-        arith,
-        one_more_counted (is_idle account) (count_by is_idle all),
-        ap (count_by is_idle) accounts-push,
-        sum_by-append (λ (o : Option ℕ). cond (is_idle o) 1 0) all (account ∷ []),
-      ) where
-        one_more_counted : (b : Bool) (n : ℕ) → one_more b n ≡ n + cond b 1 0
-        one_more_counted true n = refl
-        one_more_counted false n = omega arith
+  idle-push = grind (arith, is_idle, accounts-push, sum_by-append, one_more)
 
 -- each cycle is on account of one
 length-accounts_from : (before : Option ℕ) (cycles : List FollowedCycle) →

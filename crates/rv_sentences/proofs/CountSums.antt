@@ -1,6 +1,6 @@
 -- No more things are counted at the words of RAM than there are.
-use Rattle.std.proofs.Common.{◌≡◌, ◌∙◌, ℕ, zero, suc, ◌+◌, ◌-◌, ◌≤◌, ◌==◌, nat_lt, Bool, true, false, List}
-use Rattle.std.proofs.Common.{[], ◌∷◌, length, map, Option, Some, None, cond, refl, ap, arith, ne_eqb}
+use Rattle.std.proofs.Common.{◌≡◌, ◌∙◌, ℕ, zero, suc, ◌+◌, ◌-◌, ◌≤◌, ◌==◌, nat_lt, Bool, true, false, List, [], ◌∷◌}
+use Rattle.std.proofs.Common.{length, map, Option, Some, None, cond, refl, ap, arith, ne_eqb}
 use Rattle.std.proofs.lemmas.Bool.{eqb-true}
 use Rattle.std.proofs.lemmas.List.Sums.{sum_by-cons}
 use Rattle.std.specs.Prelude.{slice_set, sum}
@@ -110,9 +110,7 @@ sum_at counts word false is (Some n) got_is =
 
 -- one thing more is counted once at most
 pub sum_with_one : (place : Option ℕ) (counts : Notes ℕ) → sum (with_one place counts).words ≤ sum counts.words + 1
-sum_with_one None counts = omega arith
-sum_with_one (Some word) counts =
-    sum_at counts word (nat_lt word counts.first) refl (slice_get counts.words (word - counts.first)) refl
+sum_with_one place counts = grind (arith, sum_at)
 
 pub sum_with_all : {X : Type 0} (place : X → Option ℕ) (xs : List X) (counts : Notes ℕ) →
     sum (with_all place xs counts).words ≤ sum counts.words + length xs

@@ -1,6 +1,5 @@
 -- What is counted at the words of RAM, as more things come.
-use Rattle.std.proofs.Common.{◌≡◌, ◌∙◌, ℕ, ◌+◌, List, [], ◌∷◌, ◌++◌, Option, Some}
-use Rattle.std.proofs.Common.{None, cond, refl, ap, sym, arith, eq-eqb, ne_eqb}
+use Rattle.std.proofs.Common.{◌≡◌, ◌∙◌, ℕ, ◌+◌, List, [], ◌∷◌, ◌++◌, Option, cond, refl, ap, arith}
 use Rattle.std.proofs.lemmas.List.Sums.{sum_by-append, sum_by-cons}
 use Rattle.rv_isa.specs.declared.values.Values.{Values}
 use Rattle.rv_sentences.specs.WordCount.{count_at, is_word, with_all, with_one}
@@ -10,16 +9,7 @@ use Rattle.rv_sentences.proofs.WordTable.{change_one}
 -- one thing more
 pub with_one_at : (values : Values) (place : Option ℕ) (old new : ℕ → ℕ) →
     ((w : ℕ) → new w ≡ old w + cond (is_word w place) 1 0) → with_one place (notes_of values old) ≡ notes_of values new
-with_one_at values None old new are =
-    let same : (w : ℕ) → old w ≡ new w = λ w. omega (arith, are w) in
-    λ i. notes_of values (λ w. same w i)
-with_one_at values (Some word) old new are =
-    let here : old word + 1 ≡ new word =
-    sym (are word ∙ ap (λ test. old word + cond test 1 0) (eq-eqb word word refl)) in
-    let others : (w : ℕ) → (w ≡ word → ⊥) → old w ≡ new w =
-    λ w is_not. let more = are w ∙ ap (λ test. old w + cond test 1 0) (ne_eqb word w (λ is. is_not (sym is))) in
-    omega (arith, more) in
-    change_one values (λ count. count + 1) old new word here others
+with_one_at values place old new are = grind (arith, change_one)
 
 -- some things more
 pub with_all_at : {X : Type 0} (values : Values) (place : X → Option ℕ) (xs : List X) (old new : ℕ → ℕ) →
@@ -37,12 +27,7 @@ with_all_at values place (x ∷ xs) old new are =
 -- one place more at the end
 pub with_last_at : {X : Type 0} (values : Values) (place : X → Option ℕ) (xs : List X) (x : X) →
     with_one (place x) (notes_of values (count_at place xs)) ≡ notes_of values (count_at place (xs ++ x ∷ []))
-with_last_at values place xs x =
-    with_one_at values (place x) (count_at place xs) (count_at place (xs ++ x ∷ []))
-    (λ w. sum_by-append (λ y. cond (is_word w (place y)) 1 0) xs (x ∷ [])
-    ∙ ap (λ n. count_at place xs w + n) (nothing_and (cond (is_word w (place x)) 1 0))) where
-      nothing_and : (n : ℕ) → 0 + n ≡ n
-      nothing_and n = omega arith
+with_last_at values place xs x = grind (arith, with_one_at, sum_by-append)
 
 -- the last of some things comes first
 pub with_all-last : {X : Type 0} (place : X → Option ℕ) (xs : List X) (x : X) (counts : Notes ℕ) →

@@ -1,9 +1,9 @@
 -- A cycle's drain phase begins an access where the end of the access under way changes, and nowhere else.
-use Rattle.std.proofs.Common.{◌≡◌, ◌∙◌, ℕ, ◌+◌, ◌≤◌, ◌<◌, Bool, true, false, if◌then◌else◌, nat_le, List}
-use Rattle.std.proofs.Common.{[], ◌∷◌, ◌++◌, Option, Some, None, refl, ap, sym, arith, eq-eqb, ne_eqb}
+use Rattle.std.proofs.Common.{◌≡◌, ◌∙◌, ℕ, ◌+◌, ◌≤◌, ◌<◌, Bool, true, false, if◌then◌else◌, nat_le, List, [], ◌∷◌, ◌++◌}
+use Rattle.std.proofs.Common.{Option, Some, None, refl, ap, sym, arith, eq-eqb, ne_eqb}
 use Rattle.std.specs.FinSet as set
 use Rattle.std.specs.Option.{option_map}
-use Rattle.std.proofs.lemmas.Bool.{leb-true, leb-false, true≢false}
+use Rattle.std.proofs.lemmas.Bool.{leb-true, leb-false}
 use Rattle.rv_isa.specs.declared.broadcast.StoreAccess.{StoreAccess}
 use Rattle.rv_isa.specs.declared.lines.Lines.{Lines}
 use Rattle.rv_isa.specs.declared.operations.Kind.{Kind}
@@ -13,13 +13,11 @@ use Rattle.rv_stores.specs.Queue.{is_oldest_draining, oldest_to_drain, with_olde
 use Rattle.rv_stores.specs.Store.{draining, is_draining, is_draining_state, state_to_drain}
 use Rattle.rv_stores.specs.declared.store.Store.{Store}
 use Rattle.rv_stores.specs.declared.store.StoreState.{StoreState}
-use Rattle.rv_stores.specs.declared.store.StoreState.TheVariants.{Waiting, Faulted, Filled}
 use Rattle.rv_hardware.specs.Commit.{is_drained, with_write_back}
 use Rattle.rv_hardware.specs.Cycle.{IsCycle, any_prediction, commit_with, execute, with_lines}
 use Rattle.rv_hardware.specs.Drain.{drain, end_drain, start_drain}
 use Rattle.rv_hardware.specs.Draining.{drain_cost, drain_end}
 use Rattle.rv_hardware.specs.Hardware.{Hardware}
-use Rattle.rv_hardware.specs.Issue.{FromCache, has_port, with_access}
 use Rattle.rv_hardware.specs.Report.{Report}
 use Rattle.rv_hardware.specs.Retirement.{committed_store}
 use Rattle.rv_hardware.specs.Run.{Reachable}
@@ -47,9 +45,7 @@ record Stands (number : ℕ) (under : Option ℕ) (h : Hardware) : Type 0 where
 
 oldest_stays : (ss : List Store) (seq : ℕ) (access : Option StoreAccess) →
     is_oldest_draining (ss ++ committed_store seq access) ≡ is_oldest_draining ss
-oldest_stays [] seq None = refl
-oldest_stays [] seq (Some access) = refl
-oldest_stays (s ∷ ss) seq access = refl
+oldest_stays ss seq access = grind arith
 
 none_drains : (h : Hardware) (stores : List Store) → h.committed ≡ stores →
     is_drained (record h { committed = stores }) ≡ true → is_oldest_draining h.committed ≡ false
@@ -95,9 +91,7 @@ rests (s ∷ ss) queue = by_test (λ l. is_oldest_draining l ≡ false) (is_drai
 
 now_draining : (state : StoreState) (access : StoreAccess) → state_to_drain state ≡ Some access →
     is_draining_state (draining state) ≡ true
-now_draining Waiting access is = absurd (cc)
-now_draining Faulted access is = absurd (cc)
-now_draining (Filled written phase) access is = refl
+now_draining state access is = grind arith
 
 now_drains : (ss : List Store) (access : StoreAccess) → oldest_to_drain ss ≡ Some access →
     is_oldest_draining (with_oldest_draining ss) ≡ true
@@ -121,30 +115,12 @@ module _ (number : ℕ) (under : Option ℕ) (h : Hardware) (stands : Stands num
   other_end end false after = refl
 
   new_end : (cost : ℕ) → h.port_free ≤ h.cycle → 1 ≤ cost → begun number under (Some (h.cycle + cost)) ≡ Some cost
-  new_end cost idle some =
-      let other : ends_at (h.cycle + cost) under ≡ false = ap (ends_at (h.cycle + cost)) (sym stands.ends)
-      ∙ other_end (h.cycle + cost) (is_oldest_draining h.committed) (omega (arith, idle, some)) in
-      rw other (ap Some (omega (arith, stands.cycle)))
+  new_end cost idle some = grind (arith, other_end)
 
   starts : (found : Option StoreAccess) → oldest_to_drain (without_drained h.committed) ≡ found → h.port_free ≤ h.cycle
       → Begins number under (option_map (λ (access : StoreAccess). access_cost h.cache access.address) found)
       (start_drain found (end_drain h))
-  starts None is idle =
-      let none = rests h.committed stands.queue in
-      record {
-        cycle = stands.cycle;
-        later = λ drains. absurd (true≢false (sym drains ∙ none));
-        costs = ap (λ drains. begun number under (end_by drains h.port_free)) none;
-      }
-  starts (Some access) is idle =
-      let cost = access_cost h.cache access.address in
-      let some : 1 ≤ cost = omega (arith, access_cost-least h.cache access.address, stands.costs) in
-      let drains = now_drains (without_drained h.committed) access is in
-      record {
-        cycle = stands.cycle;
-        later = λ _. omega (arith, some, stands.cycle);
-        costs = ap (λ drains. begun number under (end_by drains (h.cycle + cost))) drains ∙ new_end cost idle some;
-      }
+  starts found is idle = grind (arith, rests, begun, access_cost-least, now_drains, new_end)
 
   drains_by_port : (idle : Bool) → nat_le h.port_free h.cycle ≡ idle → Begins number under (drain_cost h) (drain h)
   drains_by_port true is =
@@ -171,43 +147,13 @@ module _ (number : ℕ) (under : Option ℕ) where
   idle_rests h stays idle false is = is
 
   stays_at_issue : (k : Kind) → IsKeptByIssue (Stays number under) k
-  stays_at_issue k = record {
-    accesses = λ h older younger e address stays split ready by.
-        let may = (ready-parts h k older e ready).loads in
-        let idle = leb-true h.port_free h.cycle (sym (ap (has_port h) by) ∙ has_its_port h older e may) in
-        let none = idle_rests h stays idle (is_oldest_draining h.committed) refl in
-        record {
-          cycle = stays.cycle;
-          later = λ drains. absurd (true≢false (sym drains ∙ none));
-          ends =
-              ap (λ drains. end_by drains (with_access (FromCache address) h).port_free) none
-              ∙ sym (ap (λ drains. end_by drains h.port_free) none) ∙ stays.ends;
-        };
-    starts =
-        λ h older younger e cost message stays split waits of_kind result
-        costs. record { cycle = stays.cycle; later = stays.later; ends = stays.ends };
-  }
+  stays_at_issue k = grind (arith, ready-parts, has_its_port, idle_rests, starts)
 
   stays_at_broadcast : IsKeptByBroadcast (Stays number under)
-  stays_at_broadcast = record {
-    broadcasts = λ h older younger e message stays split gives. record {
-      cycle = stays.cycle;
-      later = stays.later;
-      ends = stays.ends;
-    };
-    mends = λ h older younger e next stays split. record {
-      cycle = stays.cycle;
-      later = stays.later;
-      ends = stays.ends;
-    };
-  }
+  stays_at_broadcast = grind arith
 
   stays_at_dispatch : IsKeptByDispatch (Stays number under)
-  stays_at_dispatch =
-      record {
-        dispatches = λ h fetched rest stays first
-            none. record { cycle = stays.cycle; later = stays.later; ends = stays.ends };
-      }
+  stays_at_dispatch = grind arith
 
 -- ---- the whole cycle
 pub begun_in_cycle : {lines : Lines} {old new : Hardware} {report : Report} → Reachable old →

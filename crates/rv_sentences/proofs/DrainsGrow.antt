@@ -6,9 +6,9 @@ use Rattle.rv_hardware.specs.Hardware.{Hardware}
 use Rattle.rv_hardware.specs.History.{History, Moment, cycled, ended}
 use Rattle.rv_counts.specs.declared.loads.LoadCosts.{LoadCosts}
 use Rattle.rv_sentences.specs.Drain.{drain_in}
-use Rattle.rv_sentences.specs.Drained.{CanCountStore, drained_from, drained_of, hit_at, miss_at}
-use Rattle.rv_sentences.specs.Drained.{oldest_drained, still_waiting, store_counts, waiting_from}
-use Rattle.rv_sentences.specs.Drained.{waiting_in, waiting_of, with_drained, write_back_at}
+use Rattle.rv_sentences.specs.Drained.{CanCountStore, drained_from, drained_of, hit_at, miss_at, oldest_drained}
+use Rattle.rv_sentences.specs.Drained.{still_waiting, store_counts, waiting_from, waiting_in, waiting_of, with_drained}
+use Rattle.rv_sentences.specs.Drained.{write_back_at}
 use Rattle.rv_sentences.specs.declared.drained.Drained.{Drained}
 use Rattle.rv_sentences.proofs.CountSums.{counted_within}
 use Rattle.rv_sentences.proofs.CountsGrow.{with_last_at}
@@ -71,11 +71,4 @@ length-drained_from arrivals waiting h (moment ∷ moments) =
 pub can_count_store : (values : Values) (costs : LoadCosts) (arrivals : List Arrival) (h : Hardware)
     (moments : List Moment) → length moments ≤ 2 ^ 40 →
     CanCountStore (store_counts values costs (drained_of arrivals h moments))
-can_count_store values costs arrivals h moments few =
-    let drains = drained_of arrivals h moments in
-    let all = length-drained_from arrivals [] h moments in
-    record {
-      hits = omega (arith, counted_within (hit_at costs) values drains, all, few);
-      misses = omega (arith, counted_within (miss_at costs) values drains, all, few);
-      write_backs = omega (arith, counted_within (write_back_at costs) values drains, all, few);
-    }
+can_count_store values costs arrivals h moments few = grind (arith, length-drained_from, counted_within)

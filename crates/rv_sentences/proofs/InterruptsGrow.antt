@@ -1,11 +1,9 @@
 -- What is kept of some interrupts, with one more.
-use Rattle.std.proofs.Common.{◌≡◌, ◌∙◌, ℕ, ◌+◌, ◌<◌, ◌^◌, ◌==◌, Bool, true, false}
-use Rattle.std.proofs.Common.{cond, List, [], ◌∷◌, ◌++◌, length, ap, arith, append-nil}
+use Rattle.std.proofs.Common.{◌≡◌, ℕ, ◌+◌, ◌<◌, ◌^◌, Bool, true, false, cond, List, [], ◌∷◌, ◌++◌, length, ap, arith}
+use Rattle.std.proofs.Common.{append-nil}
 use Rattle.std.specs.Prelude.{IfSome}
-use Rattle.std.specs.List.{filter}
 use Rattle.std.proofs.lemmas.List.Elements.{filter-append}
 use Rattle.std.proofs.lemmas.List.Sums.{count_by-le-length, length-filter}
-use Rattle.rv_arch.specs.Trap.{interrupt_cause}
 use Rattle.rv_sentences.specs.Interrupt.{AreCountable, by_line, line_with, of_cause, with_interruption}
 use Rattle.rv_sentences.specs.Series.{series_of, series_with}
 use Rattle.rv_sentences.specs.declared.{interruption.Interruption.Interruption, series.Series.Series}
@@ -20,36 +18,18 @@ module _ (cause : ℕ) (interruption : Interruption) where
 
   cause-push : (interruptions : List Interruption) →
       of_cause cause (interruptions ++ interruption ∷ []) ≡ line_with cause interruption (of_cause cause interruptions)
-  cause-push interruptions =
-      ap series_of (filter-append (λ (i : Interruption). i.cause == cause) interruptions (interruption ∷ []))
-      ∙ kept_as (filter (λ (i : Interruption). i.cause == cause) interruptions) (interruption.cause == cause)
+  cause-push interruptions = grind (arith, filter-append, kept_as)
 
 -- the interrupts by line, with one more
 pub by_line-push : (interruptions : List Interruption) (interruption : Interruption) →
     by_line (interruptions ++ interruption ∷ []) ≡ with_interruption interruption (by_line interruptions)
-by_line-push interruptions interruption = λ i. record {
-  software = cause-push (interrupt_cause 3) interruption interruptions i;
-  timer = cause-push (interrupt_cause 7) interruption interruptions i;
-  external = cause-push (interrupt_cause 11) interruption interruptions i;
-}
+by_line-push interruptions interruption = grind (arith, cause-push)
 
 cause_counted : (cause : ℕ) (interruptions : List Interruption) → length interruptions + 1 < 2 ^ 64 →
     IfSome (of_cause cause interruptions) (λ (series : Series Interruption). series.count + 1 < 2 ^ 64)
-cause_counted cause interruptions little =
-    series_counted (filter (λ (i : Interruption). i.cause == cause) interruptions)
-    (omega (
-      arith,
-      length-filter (λ (i : Interruption). i.cause == cause) interruptions,
-      count_by-le-length
-          (λ (i : Interruption). i.cause == cause) interruptions,
-      little,
-    ))
+cause_counted cause interruptions little = grind (arith, series_counted, length-filter, count_by-le-length)
 
 -- the counts of few interrupts can go on by one
 pub lines_counted : (interruptions : List Interruption) → length interruptions + 1 < 2 ^ 64 →
     AreCountable (by_line interruptions)
-lines_counted interruptions little = record {
-  software = cause_counted (interrupt_cause 3) interruptions little;
-  timer = cause_counted (interrupt_cause 7) interruptions little;
-  external = cause_counted (interrupt_cause 11) interruptions little;
-}
+lines_counted interruptions little = grind (arith, cause_counted)

@@ -1,16 +1,15 @@
 -- What is kept of some exceptions, with one more.
-use Rattle.std.proofs.Common.{◌≡◌, ◌∙◌, ℕ, zero, suc, ◌+◌, ◌≤◌, ◌<◌, ◌^◌, ◌==◌, ◌&&◌, ◌||◌, Bool, true}
-use Rattle.std.proofs.Common.{false, nat_le, cond, ⊎_elim, le-leb, List, [], ◌∷◌, ◌++◌, length, map}
-use Rattle.std.proofs.Common.{take, slice_index_or, refl, ap, sym, arith, append-nil, length-append}
-use Rattle.std.proofs.lemmas.Bool.{eqb-true, lt-leb}
+use Rattle.std.proofs.Common.{◌≡◌, ◌∙◌, ℕ, zero, suc, ◌+◌, ◌≤◌, ◌<◌, ◌^◌, ◌&&◌, ◌||◌, Bool, true, false, nat_le, cond}
+use Rattle.std.proofs.Common.{⊎_elim, le-leb, List, [], ◌∷◌, ◌++◌, length, map, take, slice_index_or, refl, ap, sym}
+use Rattle.std.proofs.Common.{arith, append-nil, length-append}
+use Rattle.std.proofs.lemmas.Bool.{lt-leb}
 use Rattle.std.proofs.lemmas.List.{length-map, length-take-le, take-append-le, take-map, take_all}
 use Rattle.std.proofs.lemmas.List.Elements.{All-take, filter-append}
 use Rattle.std.proofs.lemmas.List.Sums.{count_by-le-length, length-filter}
 use Rattle.std.proofs.str.Laws.{order}
 use Rattle.std.specs.List.{filter, list_any}
-use Rattle.rv_isa.specs.Cause.{code_of}
-use Rattle.rv_sentences.specs.Kinds.{IsCountable, belongs, is_alike, kept_of}
-use Rattle.rv_sentences.specs.Kinds.{kept_with, kind_with, kinds_after, kinds_with}
+use Rattle.rv_sentences.specs.Kinds.{IsCountable, belongs, is_alike, kept_of, kept_with, kind_with, kinds_after}
+use Rattle.rv_sentences.specs.Kinds.{kinds_with}
 use Rattle.rv_sentences.specs.Series.{continued, series_from}
 use Rattle.rv_sentences.specs.declared.exception.Exception.{Exception}
 use Rattle.rv_sentences.specs.declared.series.Series.{Series}
@@ -26,11 +25,7 @@ is_like e es = list_any (λ earlier. is_alike earlier e) es
 
 -- what is like an exception is like those that are like it
 is_like-alike : (f e : Exception) (es : List Exception) → is_alike f e ≡ true → is_like f es ≡ is_like e es
-is_like-alike f e es alike =
-    let same = both_true (f.pc == e.pc) (code_of f.cause == code_of e.cause) alike in
-    let pc = eqb-true f.pc e.pc same.0 in
-    let code = eqb-true (code_of f.cause) (code_of e.cause) same.1 in
-    λ i. list_any (λ (earlier : Exception). (earlier.pc == pc i) && (code_of earlier.cause == code i)) es
+is_like-alike f e es alike = grind (arith, both_true)
 
 swap_or : (a b c : Bool) → ((a || b) || c) ≡ (b || (a || c))
 swap_or true true c = refl

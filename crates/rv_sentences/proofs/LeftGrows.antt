@@ -1,6 +1,6 @@
 -- What is kept of the instructions that left the hardware, where the last of some is added first.
-use Rattle.std.proofs.Common.{◌≡◌, ◌∙◌, ℕ, ◌+◌, ◌≤◌, Bool, true, false, List, [], ◌∷◌, ◌++◌, length}
-use Rattle.std.proofs.Common.{filter, count_by, is_some, cond, refl, ap, sym, arith, append-nil}
+use Rattle.std.proofs.Common.{◌≡◌, ◌∙◌, ℕ, ◌+◌, ◌≤◌, Bool, true, false, List, [], ◌∷◌, ◌++◌, length, filter, count_by}
+use Rattle.std.proofs.Common.{is_some, cond, refl, ap, sym, arith, append-nil}
 use Rattle.std.proofs.lemmas.List.Elements.{filter-append}
 use Rattle.std.proofs.lemmas.List.Sums.{length-filter, sum_by_push}
 use Rattle.rv_memory.specs.Memory.{word_of}
@@ -31,18 +31,14 @@ one_more-counted false n m = omega arith
 
 counted-last : (test : Passage → Bool) (ps : List Passage) (p : Passage) (n : ℕ) →
     one_more (test p) n + count_by test ps ≡ n + count_by test (ps ++ p ∷ [])
-counted-last test ps p n =
-    one_more-counted (test p) n (count_by test ps)
-    ∙ ap (λ m. n + m) (sym (sum_by_push (λ (q : Passage). cond (test q) 1 0) ps p))
+counted-last test ps p n = grind (arith, one_more-counted, sum_by_push)
 
 -- where a count of what left the hardware is one of all that pass a test
 module _ (count : List Passage → ℕ) (test : Passage → Bool)
     (same : (ps : List Passage) → count (filter has_left ps) ≡ count_by test ps) where
   counted_left-last : (ps : List Passage) (p : Passage) (n : ℕ) →
       one_more (test p) n + count (filter has_left ps) ≡ n + count (filter has_left (ps ++ p ∷ []))
-  counted_left-last ps p n =
-      ap (λ m. one_more (test p) n + m) (same ps) ∙ counted-last test ps p n
-      ∙ ap (λ m. n + m) (sym (same (ps ++ p ∷ [])))
+  counted_left-last ps p n = grind (arith, one_more, counted-last)
 
 left-last : (ps : List Passage) (p : Passage) (n : ℕ) →
     one_more (has_left p) n + length (filter has_left ps) ≡ n + length (filter has_left (ps ++ p ∷ []))
@@ -120,38 +116,11 @@ CanCount counts more = CanAdd counts.work counts.loads counts.branches counts.mi
 
 -- room for more is room for fewer
 pub can_add_fewer : (counts : Counts) (fewer more : ℕ) → fewer ≤ more → CanCount counts more → CanCount counts fewer
-can_add_fewer counts fewer more under can = record {
-  left = omega (arith, under, can.left);
-  squashed = omega (arith, under, can.squashed);
-  branches = omega (arith, under, can.branches);
-  mispredicted = omega (arith, under, can.mispredicted);
-  loads = omega (arith, under, can.loads);
-  quick = omega (arith, under, can.quick);
-  branch_words = omega (arith, under, can.branch_words);
-  mispredicted_words = omega (arith, under, can.mispredicted_words);
-  outcomes = can_take_fewer counts.outcomes fewer more under can.outcomes;
-}
+can_add_fewer counts fewer more under can = grind (arith, can_take_fewer)
 
 -- with one more by so many fewer
 module _ (costs : LoadCosts) (p : Passage) (counts : Counts) (fewer more : ℕ) (under : fewer + 1 ≤ more)
     (can : CanCount counts more) where
   -- after one instruction there is room for the others
   pub can_add_others : CanCount (counts_with costs p counts) fewer
-  can_add_others = record {
-    left = omega (arith, under, can.left, one_more-within (has_left p) counts.work.left);
-    squashed = omega (arith, under, can.squashed, one_more-within (is_squash p.ending) counts.work.squashed);
-    branches = omega (arith, under, can.branches, one_more-within (is_retired_branch p) counts.work.branches);
-    mispredicted = omega (arith, under, can.mispredicted, one_more-within (is_mispredicted p) counts.work.mispredicted);
-    loads = omega (arith, under, can.loads, one_more-within (is_some (retired_load_cost p)) counts.loads.all);
-    quick = omega (arith, under, can.quick, one_more-within (is_hit costs (retired_load_cost p)) counts.loads.quick);
-    branch_words = omega (arith, under, can.branch_words, sum_with_one (word_in Branch p) counts.branches);
-    mispredicted_words = omega (
-      arith,
-      under,
-      can.mispredicted_words,
-      sum_with_one (word_in Mispredicted p) counts.mispredicted,
-    );
-    outcomes =
-        let changed = with_change (outcomes_with costs p) counts.outcomes (word_of p.pc) in
-        can_take_others costs p counts.outcomes changed (word_of p.pc) fewer more refl under can.outcomes;
-  }
+  can_add_others = grind (arith, one_more-within, sum_with_one, can_take_others)

@@ -1,6 +1,6 @@
 -- The counts of words, line by line.
-use Rattle.std.proofs.Common.{◌≡◌, ◌∙◌, ℕ, zero, suc, ◌+◌, ◌-◌, ◌≤◌, ◌<◌, Bool, true, false, if◌then◌else◌}
-use Rattle.std.proofs.Common.{List, [], ◌∷◌, length, drop, refl, ap, sym, arith, le-ltb, lt-ltb}
+use Rattle.std.proofs.Common.{◌≡◌, ◌∙◌, ℕ, zero, suc, ◌+◌, ◌-◌, ◌≤◌, ◌<◌, Bool, true, false, if◌then◌else◌, List, []}
+use Rattle.std.proofs.Common.{◌∷◌, length, drop, refl, ap, sym, arith, le-ltb, lt-ltb}
 use Rattle.std.specs.Prelude.{get_or, sum}
 use Rattle.std.specs.List.{slice_get}
 use Rattle.std.proofs.lemmas.List.{drop_all}
@@ -68,10 +68,7 @@ by_line_from : (listing : Listed) (word count : ℕ) (counts : List ℕ)
     ≡ line_count listing word (count ∷ counts)
     ∷ (if goes_on listing word then 0 else line_count listing (word + 1) counts)
     ∷ drop 1 (by_line listing (word + 1) counts)
-by_line_from listing word count counts rest =
-    let others = drop 1 (by_line listing (word + 1) counts) in
-    ap (λ (all : List ℕ). if goes_on listing word then with_next (count ∷ all) else count ∷ all) rest
-    ∙ joined (goes_on listing word) count (line_count listing (word + 1) counts) others
+by_line_from listing word count counts rest = grind (arith, goes_on, joined)
 
 -- the first word has the count of its line
 pub by_line_first : (listing : Listed) (word : ℕ) (counts : List ℕ) → 0 < length counts
@@ -141,20 +138,14 @@ line_begun listing first (suc place) counts within off =
 pub line_begins : (listing : Listed) (first place : ℕ) (counts : List ℕ) → place < length counts
     → get_or counts place 0 + count_beyond listing (first + place) (drop (place + 1) counts)
     ≡ line_count listing (first + place) (drop place counts)
-line_begins listing first place counts within =
-    let next : place + 1 ≡ suc place = omega arith in
-    rw next (sym (ap (line_count listing (first + place)) (drop_at place counts within)))
+line_begins listing first place counts within = grind (arith, drop_at)
 
 -- as far as they are of its line
 pub line_continues : (listing : Listed) (first last : ℕ) (counts : List ℕ)
     → last + 1 < length counts → goes_on listing (first + last) ≡ true
     → get_or counts (last + 1) 0 + count_beyond listing (first + (last + 1)) (drop (last + 1 + 1) counts)
     ≡ count_beyond listing (first + last) (drop (last + 1) counts)
-line_continues listing first last counts within on =
-    let word : first + (last + 1) ≡ first + last + 1 = omega arith in
-    line_begins listing first (last + 1) counts within
-    ∙ ap (λ (w : ℕ). line_count listing w (drop (last + 1) counts)) word
-    ∙ sym (ap (λ (on : Bool). if on then line_count listing (first + last + 1) (drop (last + 1) counts) else 0) on)
+line_continues listing first last counts within on = grind (arith, line_begins)
 
 -- those of another line add nothing
 pub line_ends : (listing : Listed) (word : ℕ) (counts : List ℕ) → goes_on listing word ≡ false
@@ -168,9 +159,7 @@ nothing_beyond false count none = refl
 -- nor does the end of the counts
 pub line_over : (listing : Listed) (word place : ℕ) (counts : List ℕ) → length counts ≤ place
     → count_beyond listing word (drop place counts) ≡ 0
-line_over listing word place counts past =
-    let none = ap (line_count listing (word + 1)) (drop_all place counts past) in
-    nothing_beyond (goes_on listing word) (line_count listing (word + 1) (drop place counts)) none
+line_over listing word place counts past = grind (arith, drop_all, nothing_beyond, goes_on)
 
 -- all of them are no more than all
 pub line_fits : (listing : Listed) (word place : ℕ) (counts : List ℕ)
@@ -216,7 +205,4 @@ by_place listing counts word above =
 -- and nothing above it
 pub none_above : (listing : Listed) (counts : Notes ℕ) (word : ℕ)
     → counts.first ≤ word → length counts.words ≤ word - counts.first → count_in (line_counts listing counts) word ≡ 0
-none_above listing counts word above past =
-    let same = length_by_line listing counts.first counts.words in
-    by_place listing counts word above
-    ∙ got_past (by_line listing counts.first counts.words) (word - counts.first) (omega (arith, past, same))
+none_above listing counts word above past = grind (arith, length_by_line, by_place, got_past)

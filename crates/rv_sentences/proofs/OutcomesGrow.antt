@@ -1,7 +1,6 @@
 -- What became of the instructions in each word, as more leave the hardware.
-use Rattle.std.proofs.Common.{◌≡◌, ◌∙◌, ℕ, zero, suc, ◌+◌, ◌-◌, ◌^◌, ◌<◌, ◌≤◌, nat_lt, Bool}
-use Rattle.std.proofs.Common.{true, false, List, [], ◌∷◌, ◌++◌, length, filter, map, Option}
-use Rattle.std.proofs.Common.{Some, None, cond, refl, ap, sym, subst, arith, eq-eqb, ne_eqb}
+use Rattle.std.proofs.Common.{◌≡◌, ◌∙◌, ℕ, zero, suc, ◌+◌, ◌-◌, ◌^◌, ◌<◌, ◌≤◌, nat_lt, Bool, true, false, List, [], ◌∷◌}
+use Rattle.std.proofs.Common.{◌++◌, length, filter, map, Option, Some, None, refl, ap, sym, subst, arith, eq-eqb}
 use Rattle.std.specs.Prelude.{IfSome, slice_set}
 use Rattle.std.specs.List.{range_with_len, slice_get}
 use Rattle.std.proofs.lemmas.List.Sums.{count_by-le-length}
@@ -16,8 +15,8 @@ use Rattle.rv_counts.proofs.Changes.{each-by}
 use Rattle.rv_counts.proofs.CountsMore.{count_by-cons}
 use Rattle.rv_counts.proofs.Rooms.{filter-le, one_more-within}
 use Rattle.rv_sentences.specs.Load.{retired_load_cost}
-use Rattle.rv_sentences.specs.Outcome.{CanCount, CanTake, IsWithin, is_forwarded, is_in, is_write_back}
-use Rattle.rv_sentences.specs.Outcome.{outcomes_at, outcomes_of, outcomes_with, with_passages}
+use Rattle.rv_sentences.specs.Outcome.{CanCount, CanTake, IsWithin, is_forwarded, is_in, is_write_back, outcomes_at}
+use Rattle.rv_sentences.specs.Outcome.{outcomes_of, outcomes_with, with_passages}
 use Rattle.rv_sentences.specs.WordNotes.{Notes, changed, note_at, notes_of, with_change}
 use Rattle.rv_sentences.specs.declared.outcomes.Outcomes.{Outcomes}
 use Rattle.rv_sentences.proofs.WordTable.{change_one}
@@ -47,12 +46,7 @@ module _ {X : Type 0} (P Q : X → Type 0) (change : X → X) (stays : (x : X) �
 
   by_some : (notes : Notes X) (word : ℕ) (o : Option X) → IfSome o P → Each P notes.words →
       Each Q (changed change notes word o).words
-  by_some notes word None has each = each-by notes.words stays each
-  by_some notes word (Some x) has each = by_below (nat_lt word notes.first) where
-    by_below : (below : Bool) →
-        Each Q (cond below notes (record notes { words = slice_set notes.words (word - notes.first) (change x) })).words
-    by_below true = each-by notes.words stays each
-    by_below false = each-set notes.words (word - notes.first) (change x) (then x has) each
+  by_some notes word o has each = grind (arith, each-by, each-set)
 
   each-change : (notes : Notes X) (word : ℕ) → Each P notes.words → Each Q (with_change change notes word).words
   each-change notes word each = by_some notes word (note_at notes word) (each-note P notes word each) each
@@ -65,33 +59,16 @@ each-of P f all a (suc n) = (all a, each-of P f all (a + 1) n)
 -- ---- the counts can go on
 
 within-more : (most more : ℕ) (o : Outcomes) → most ≤ more → IsWithin most o → IsWithin more o
-within-more most more o over is = record {
-  hits = omega (arith, over, is.hits);
-  forwarded = omega (arith, over, is.forwarded);
-  misses = omega (arith, over, is.misses);
-  write_backs = omega (arith, over, is.write_backs);
-}
+within-more most more o over is = grind arith
 
 within-with : (costs : LoadCosts) (p : Passage) (most : ℕ) (o : Outcomes) → IsWithin most o →
     IsWithin (most + 1) (outcomes_with costs p o)
-within-with costs p most o is = record {
-  hits = omega (arith, is.hits, one_more-within (is_hit costs (retired_load_cost p)) o.hits);
-  forwarded = omega (arith, is.forwarded, one_more-within (is_forwarded costs (retired_load_cost p)) o.forwarded);
-  misses = omega (arith, is.misses, one_more-within (is_miss costs (retired_load_cost p)) o.misses);
-  write_backs = omega (
-    arith,
-    is.write_backs,
-    one_more-within (is_write_back costs (retired_load_cost p)) o.write_backs,
-  );
-}
+within-with costs p most o is = grind (arith, one_more-within)
 
 -- one more can be counted
 pub can_count : (notes : Notes Outcomes) (word more : ℕ) → 1 ≤ more → CanTake notes more →
     IfSome (note_at notes word) CanCount
-can_count notes word more some can =
-    each-note CanCount notes word
-    (each-by notes.words (λ o is. within-more can.most (2 ^ 62) o (omega (arith, some, can.countable)) is)
-    can.within)
+can_count notes word more some can = grind (arith, each-note, each-by, within-more)
 
 -- and so many fewer after it
 pub can_take_others : (costs : LoadCosts) (p : Passage) (old new : Notes Outcomes) (word fewer more : ℕ) →
@@ -112,12 +89,7 @@ can_take_fewer notes fewer more under can =
 
 counts_within : (costs : LoadCosts) (ps : List Passage) (more : ℕ) → length ps ≤ more →
     IsWithin more (outcomes_of costs ps)
-counts_within costs ps more few = record {
-  hits = omega (arith, few, count_by-le-length (λ p. is_hit costs (retired_load_cost p)) ps);
-  forwarded = omega (arith, few, count_by-le-length (λ p. is_forwarded costs (retired_load_cost p)) ps);
-  misses = omega (arith, few, count_by-le-length (λ p. is_miss costs (retired_load_cost p)) ps);
-  write_backs = omega (arith, few, count_by-le-length (λ p. is_write_back costs (retired_load_cost p)) ps);
-}
+counts_within costs ps more few = grind (arith, count_by-le-length)
 
 -- few instructions leave room for more
 pub can_take : (values : Values) (costs : LoadCosts) (left : List Passage) (more : ℕ) → length left + more < 2 ^ 62 →
@@ -158,17 +130,7 @@ changed_same change notes word false is (Some x) got_is same =
 -- an instruction that is no load that retired changes nothing
 pub no_load : (costs : LoadCosts) (p : Passage) (notes : Notes Outcomes) (word : ℕ) (cost : Option ℕ) →
     cost ≡ retired_load_cost p → cost ≡ None → notes ≡ with_change (outcomes_with costs p) notes word
-no_load costs p notes word cost cost_is is =
-    let none : retired_load_cost p ≡ None = sym cost_is ∙ is in
-    let same : (o : Outcomes) → outcomes_with costs p o ≡ o =
-    λ o. ap (λ (cost : Option ℕ). record {
-      hits = one_more (is_hit costs cost) o.hits;
-      forwarded = one_more (is_forwarded costs cost) o.forwarded;
-      misses = one_more (is_miss costs cost) o.misses;
-      write_backs = one_more (is_write_back costs cost) o.write_backs;
-    }) none in
-    sym (changed_same (outcomes_with costs p) notes word (nat_lt word notes.first) refl
-    (slice_get notes.words (word - notes.first)) refl same)
+no_load costs p notes word cost cost_is is = grind (arith, one_more, changed_same)
 
 -- the last of some instructions comes first
 pub passages-last : (costs : LoadCosts) (ps : List Passage) (p : Passage) (notes : Notes Outcomes) →
@@ -204,10 +166,7 @@ outcomes-here costs p ps =
 
 outcomes-other : (costs : LoadCosts) (p : Passage) (ps : List Passage) (word : ℕ) → (word ≡ word_of p.pc → ⊥) →
     outcomes_at costs ps word ≡ outcomes_at costs (p ∷ ps) word
-outcomes-other costs p ps word other =
-    let past : filter (is_in word) (p ∷ ps) ≡ filter (is_in word) ps =
-    rw (ne_eqb (word_of p.pc) word (λ is. other (sym is))) refl in
-    sym (ap (outcomes_of costs) past)
+outcomes-other costs p ps word other = grind arith
 
 -- some instructions before others
 pub outcomes-left : (values : Values) (costs : LoadCosts) (ps left : List Passage) →

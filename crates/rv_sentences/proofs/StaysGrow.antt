@@ -7,7 +7,7 @@ use Rattle.std.proofs.lemmas.List.Concat.{flat_map-append, flat_map-cons}
 use Rattle.std.proofs.lemmas.List.Sums.{sum_by-append, sum_by-cons}
 use Rattle.rv_isa.specs.declared.lines.Arrival.{Arrival}
 use Rattle.rv_isa.specs.PerKind.{at_kind}
-use Rattle.rv_isa.specs.declared.operations.Kind.TheVariants.{Alu, Mul, Div, Mem}
+use Rattle.rv_isa.specs.declared.operations.Kind.TheVariants.{Mem}
 use Rattle.rv_isa.specs.declared.values.Values.{Values}
 use Rattle.rv_units.specs.Pool.{is_free}
 use Rattle.rv_hardware.specs.Guided.{GuidedHardware}
@@ -17,29 +17,19 @@ use Rattle.rv_passage.specs.Table.{still_open}
 use Rattle.rv_passage.specs.Walk.{FollowedCycle, standing_at, walk}
 use Rattle.rv_passage.specs.declared.passage.Passage.{Passage}
 use Rattle.rv_passage.proofs.Walk.{last_cycle, walk-push}
-use Rattle.rv_sentences.specs.Stay.{StaysAddUp, all_stays, awaited_in, awaited_of, dispatched_stay}
-use Rattle.rv_sentences.specs.Stay.{lacks_address, no_stays, is_staying, oldest_awaited, stay_in, stays_among}
-use Rattle.rv_sentences.specs.Stay.{stays_in, stays_of, staying_in, with_reason, with_stay, with_stays}
+use Rattle.rv_sentences.specs.Stay.{StaysAddUp, all_stays, awaited_in, awaited_of, dispatched_stay, lacks_address}
+use Rattle.rv_sentences.specs.Stay.{no_stays, is_staying, oldest_awaited, stay_in, stays_among, stays_in, stays_of}
+use Rattle.rv_sentences.specs.Stay.{staying_in, with_reason, with_stay, with_stays}
 use Rattle.rv_sentences.specs.Head.{itself}
 use Rattle.rv_sentences.specs.WordCount.{count_at, with_one}
 use Rattle.rv_sentences.specs.WordNotes.{notes_of}
 use Rattle.rv_sentences.specs.declared.{stay.Stay.Stay, stays.Stays.Stays}
-use Rattle.rv_sentences.specs.declared.stay.Stay.TheVariants as stay
 use Rattle.rv_sentences.proofs.AccountsGrow.{length-walk_from}
 use Rattle.rv_sentences.proofs.CountsGrow.{with_last_at}
 
 -- ---- one reason is counted once
 more_reasons : (s : Stay) (t : Stays) → all_stays (with_reason s t) ≡ all_stays t + 1
-more_reasons (stay.Operand pc) t = omega arith
-more_reasons stay.Address t = omega arith
-more_reasons (stay.Unit Alu) t = omega arith
-more_reasons (stay.Unit Mul) t = omega arith
-more_reasons (stay.Unit Div) t = omega arith
-more_reasons (stay.Unit Mem) t = omega arith
-more_reasons stay.Port t = omega arith
-more_reasons stay.Execution t = omega arith
-more_reasons stay.Bus t = omega arith
-more_reasons stay.Retirement t = omega arith
+more_reasons s t = grind arith
 
 counted_once : (o : Option Stay) (t : Stays) → all_stays (with_stay o t) ≡ all_stays t + cond (is_some o) 1 0
 counted_once None t = omega arith
@@ -92,9 +82,7 @@ module _ {arrivals : List Arrival} {old now : GuidedHardware} {moments : List Mo
   -- why instructions stay, with one cycle more
   pub stays-push : with_stays more_stays (with_stays (stays_of old.hardware moments) no_stays)
       ≡ with_stays (stays_of old.hardware (moments ++ moment ∷ [])) no_stays
-  stays-push =
-      sym (ap (λ os. with_stays os no_stays) stays_of-push
-      ∙ with_stays-append (stays_of old.hardware moments) more_stays no_stays)
+  stays-push = grind (arith, stays_of-push, with_stays-append)
 
   awaited_of-push : awaited_of old.hardware (moments ++ moment ∷ []) ≡ awaited_of old.hardware moments
       ++ oldest_awaited more_stays ∷ []
@@ -132,12 +120,7 @@ few_stays (o ∷ os) t = omega (arith, few_stays os (with_stay o t), one_more_st
 -- no more stay than there are
 pub few_more_stays : (cycle : ℕ) (has_unit has_addresses : Bool) (rows : List Passage) (t : Stays) →
     all_stays (with_stays (stays_among cycle has_unit has_addresses rows) t) ≤ all_stays t + length rows
-few_more_stays cycle has_unit has_addresses rows t =
-    omega (
-      arith,
-      few_stays (stays_among cycle has_unit has_addresses rows) t,
-      length-stays_among cycle has_unit has_addresses rows,
-    )
+few_more_stays cycle has_unit has_addresses rows t = grind (arith, few_stays, length-stays_among)
 
 -- ---- each instruction stays in each cycle for one reason
 one_reason : (staying : Bool) (s : Stay) → is_some (cond staying (Some s) None) ≡ staying

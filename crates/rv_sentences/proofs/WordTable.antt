@@ -1,6 +1,6 @@
 -- What is kept of the words is a function of their numbers, and a change at one word changes it there alone.
-use Rattle.std.proofs.Common.{◌≡◌, ◌∙◌, ℕ, zero, suc, ◌+◌, ◌-◌, ◌<◌, ◌≤◌, nat_lt, Bool}
-use Rattle.std.proofs.Common.{true, false, ◌∷◌, map, Some, None, refl, ap, sym, arith}
+use Rattle.std.proofs.Common.{◌≡◌, ◌∙◌, ℕ, zero, suc, ◌+◌, ◌-◌, ◌<◌, ◌≤◌, nat_lt, Bool, true, false, ◌∷◌, map, Some}
+use Rattle.std.proofs.Common.{None, refl, ap, arith}
 use Rattle.std.specs.Prelude.{replicate, slice_set}
 use Rattle.std.specs.List.{range_with_len, slice_get}
 use Rattle.std.proofs.lemmas.Bool.{ltb-true, ltb-false}
@@ -54,10 +54,7 @@ module _ {X : Type 0} (change : X → X) (f g : ℕ → X) (word a n : ℕ) (her
 
   change_within : (i : ℕ) → i < n → word ≡ a + i → slice_set (map f (range_with_len a n)) i (change (f (a + i)))
       ≡ map g (range_with_len a n)
-  change_within i within is =
-      ap (λ note. slice_set (map f (range_with_len a n)) i note)
-      (ap (λ (w : ℕ). change (f w)) (sym is) ∙ here ∙ ap g is) ∙
-      word_set f g a n i within (λ w is_not. others w (λ at. is_not (at ∙ is)))
+  change_within i within is = grind (arith, word_set)
 
   change_above : (inside : Bool) → nat_lt word a ≡ false → nat_lt (word - a) n ≡ inside →
       with_change change (notes_from f a n) word ≡ notes_from g a n
@@ -81,9 +78,7 @@ module _ {X : Type 0} (change : X → X) (f g : ℕ → X) (word a n : ℕ) (her
 
   set_within : (i : ℕ) → i < n → word ≡ a + i → slice_set (map f (range_with_len a n)) i (g word)
       ≡ map g (range_with_len a n)
-  set_within i within is =
-      ap (λ (w : ℕ). slice_set (map f (range_with_len a n)) i (g w)) is ∙
-      word_set f g a n i within (λ w is_not. others w (λ at. is_not (at ∙ is)))
+  set_within i within is = grind (arith, word_set)
 
   set_above : (inside : Bool) → nat_lt word a ≡ false → nat_lt (word - a) n ≡ inside →
       with_note (notes_from f a n) word (g word) ≡ notes_from g a n
@@ -132,6 +127,4 @@ all_alike note a (suc n) = ap (λ words. note ∷ words) (all_alike note (a + 1)
 -- the same note at each word of RAM
 pub notes_alike : {X : Type 0} (values : Values) (note : X) (notes : Notes X) → notes.first ≡ word_of values.ram_base →
     notes.words ≡ replicate (word_of values.ram_size) note → notes ≡ notes_of values (λ _. note)
-notes_alike values note notes first words =
-    let all = words ∙ all_alike note (word_of values.ram_base) (word_of values.ram_size) in
-    λ i. record { first = first i; words = all i }
+notes_alike values note notes first words = grind (arith, all_alike)

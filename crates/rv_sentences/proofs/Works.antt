@@ -1,12 +1,11 @@
 -- What became of the fetched words, as instructions leave the hardware.
-use Rattle.std.proofs.Common.{◌≡◌, ◌∙◌, ℕ, ◌+◌, Bool, false, List, ◌++◌, length}
-use Rattle.std.proofs.Common.{filter, count_by, cond, refl, ap, sym, arith, length-append}
+use Rattle.std.proofs.Common.{◌≡◌, ◌∙◌, ℕ, ◌+◌, Bool, false, List, ◌++◌, length, filter, count_by, refl, ap, arith}
+use Rattle.std.proofs.Common.{length-append}
 use Rattle.std.specs.Prelude.{is_some, not}
 use Rattle.std.proofs.lemmas.List.Sums.{sum_by-append}
 use Rattle.rv_passage.specs.Passage.{is_retirement, is_running, is_squash}
 use Rattle.rv_passage.specs.Prediction.{is_mispredicted}
 use Rattle.rv_passage.specs.declared.passage.{Ending.Ending, Passage.Passage}
-use Rattle.rv_passage.specs.declared.passage.Ending.TheVariants as ending
 use Rattle.rv_counts.specs.Counts.{mispredicted_among}
 use Rattle.rv_counts.specs.Load.{is_hit}
 use Rattle.rv_counts.specs.Passing.{has_left}
@@ -15,23 +14,17 @@ use Rattle.rv_counts.proofs.Among.{count-among}
 use Rattle.rv_counts.proofs.Mispredicted.{mispredicted-all, unretired-right}
 use Rattle.rv_sentences.specs.Access.{both}
 use Rattle.rv_sentences.specs.Load.{loads_of, retired_load_cost}
-use Rattle.rv_sentences.specs.WordCount.{count_at, is_word}
+use Rattle.rv_sentences.specs.WordCount.{count_at}
 use Rattle.rv_sentences.specs.Work.{both_work, is_of, is_retired_branch, word_in, work_of}
 use Rattle.rv_sentences.specs.declared.work.Class.{Class}
 use Rattle.rv_sentences.specs.declared.work.Class.TheVariants.{Branch, Mispredicted}
 
 -- what did not leave the hardware neither retired nor was squashed
 unretired_by : (e : Ending) → not (is_running e) ≡ false → is_retirement e ≡ false
-unretired_by (ending.Retired order cycle written next) is = cc
-unretired_by ending.InFlight is = refl
-unretired_by (ending.Trapped cycle cause) is = refl
-unretired_by (ending.Squashed cycle) is = refl
+unretired_by e is = grind arith
 
 unsquashed_by : (e : Ending) → not (is_running e) ≡ false → is_squash e ≡ false
-unsquashed_by (ending.Squashed cycle) is = cc
-unsquashed_by ending.InFlight is = refl
-unsquashed_by (ending.Trapped cycle cause) is = refl
-unsquashed_by (ending.Retired order cycle written next) is = refl
+unsquashed_by e is = grind arith
 
 -- what did not leave did not retire
 pub unretired : (p : Passage) → has_left p ≡ false → is_retirement p.ending ≡ false
@@ -53,23 +46,15 @@ branches_left ps = count-among has_left is_retired_branch (λ p is. rw (unretire
 
 -- and those that were mispredicted
 pub mispredicted_left : (ps : List Passage) → mispredicted_among (filter has_left ps) ≡ count_by is_mispredicted ps
-mispredicted_left ps =
-    mispredicted-all (filter has_left ps)
-    ∙ count-among has_left is_mispredicted (λ p is. unretired-right p (unretired p is)) ps
+mispredicted_left ps = grind (arith, mispredicted-all, count-among, unretired-right, unretired)
 
 loads_left : (costs : LoadCosts) (ps : List Passage) → loads_of costs ps ≡ loads_of costs (filter has_left ps)
-loads_left costs ps =
-    let all = count-among has_left (λ p. is_some (retired_load_cost p)) (λ p is. rw (unretired p is) refl) ps in
-    let quick = count-among has_left (λ p. is_hit costs (retired_load_cost p)) (λ p is. rw (unretired p is) refl) ps in
-    λ i. record { all = sym all i; quick = sym quick i }
+loads_left costs ps = grind (arith, count-among, unretired)
 
 -- some more left the hardware
 count-appended : (test : Passage → Bool) (new old : List Passage) → count_by test old + count_by test new
     ≡ count_by test (new ++ old)
-count-appended test new old =
-    let apart : count_by test (new ++ old) ≡ count_by test new + count_by test old =
-    sum_by-append (λ (p : Passage). cond (test p) 1 0) new old in
-    omega (arith, apart)
+count-appended test new old = grind (arith, sum_by-append)
 
 -- what became of some and of others
 pub work-left : (new old : List Passage) → both_work (work_of old) (work_of new) ≡ work_of (new ++ old)
@@ -99,10 +84,7 @@ words-left : (class : Class) (none : (p : Passage) → has_left p ≡ false → 
     (rows old : List Passage) (word : ℕ)
     → count_at (word_in class) (filter has_left rows ++ old) word ≡ count_at (word_in class) old word
     + count_at (word_in class) rows word
-words-left class none rows old word =
-    let test : Passage → Bool = λ p. is_word word (word_in class p) in
-    sym (count-appended test (filter has_left rows) old)
-    ∙ ap (λ n. count_at (word_in class) old word + n) (count-among has_left test (λ p is. rw (none p is) refl) rows)
+words-left class none rows old word = grind (arith, count-appended, count-among)
 
 -- the branches and jumps at a word
 pub branch_words-left : (rows old : List Passage) (word : ℕ)

@@ -1,5 +1,4 @@
-use Rattle.std.proofs.Common.{◌≡◌, ◌∙◌, ◌+◌, ◌<◌, ◌^◌, suc, List, [], ◌∷◌}
-use Rattle.std.proofs.Common.{length, ap, arith, map, refl, rules, subst, sym}
+use Rattle.std.proofs.Common.{◌≡◌, ◌+◌, ◌<◌, ◌^◌, suc, List, [], ◌∷◌, length, arith, map, refl, rules, subst}
 use Rattle.std.specs.List.{All}
 use Rattle.rv_sentences.specs.Kinds.{kind_with}
 use Rattle.rv_sentences.specs.declared.{exception.Exception.Exception, series.Series.Series}
@@ -17,9 +16,7 @@ go_on_alike-requires c = λ c'.
     (search rules, λ k d below. room (suc k) d (omega (arith, below)))
 
 pub returns-in-Some : goal.returns-in-Some
-returns-in-Some c = λ c'.
-    (λ i. c'.go_on_if_alike.ensures i ∷ c'.go_on_alike.ensures i)
-    ∙ ap (map (kind_with c'.args.exception.now)) (sym c'.in-Some.ensures.cases.0)
+returns-in-Some c = grind arith
 
 pub returns-in_default : goal.returns-in_default
 returns-in_default c = λ c'. none_alike c'.args.exception.now c'.args.kinds.now c'.in_default.ensures.cases
