@@ -126,11 +126,27 @@ function goToLine(line) {
   editors.assembly.goTo(line);
 }
 
+// A picture for paper, in parts of some rows, since a sheet may end between two alone. The program begins each row with the line ROW.
+const ROW = /^(?=<g class='(?:open|done|trap|out|stale)' transform='translate\(0 \d+\)')/m, HIGH = 18, ABOVE = 76;
+function partsOf(text) {
+  const tail = /(?:^<g class='v' .*\n)*^<\/g>\n<\/svg>\s*$/m.exec(text)[0], [begin, ...rows] = text.slice(0, -tail.length).split(ROW);
+  const [, wide, high] = /^<svg [^>]*width='(\d+)' height='(\d+)'/.exec(begin).map(Number), each = Math.ceil(wide / (8 * HIGH)), parts = [];
+  // (a row ends above the numbers of cycles that stand again in front of some)
+  const endOf = (row) => ABOVE + Number(/\(0 (\d+)\)/.exec(row)[1]) + HIGH;
+  for (let at = 0, top = 0, end; at === 0 || at < rows.length; at += each, top = end) {
+    end = at + each < rows.length ? endOf(rows[at + each - 1]) : high;
+    const part = begin.replace(/^<svg [^>]*>/, `<svg xmlns='http://www.w3.org/2000/svg' width='${wide}' height='${end - top}' viewBox='0 ${top} ${wide} ${end - top}'>`);
+    parts.push(part + rows.slice(at, at + each).join("") + tail);
+  }
+  return parts;
+}
+
 // A picture in the colours of the day, and in those of the night, of which the style sheet shows one: WebKit tells no picture which it is.
 function picture(bytes, words) {
-  const ofNight = textOf(bytes).replace("@media (prefers-color-scheme:dark)", "@media all");
-  const drawn = (className, svg) => element("img", { className, src: urlOf(svg, "image/svg+xml"), alt: words });
-  return element("div", {}, drawn("day", bytes), drawn("night", ofNight));
+  const text = textOf(bytes), ofNight = text.replace("@media (prefers-color-scheme:dark)", "@media all");
+  const drawn = (className, svg, alt = words) => element("img", { className, src: urlOf(svg, "image/svg+xml"), alt });
+  const parts = partsOf(text).map((part, at) => drawn("", part, at === 0 ? words : ""));
+  return element("div", {}, drawn("day", bytes), drawn("night", ofNight), element("div", { className: "paper" }, ...parts));
 }
 
 function showPicture({ output, errors }) {
