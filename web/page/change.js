@@ -16,7 +16,7 @@ const signed = (number) => (number > 0 ? "+" : number < 0 ? "\u2212" : "\u00b1")
 // The line that stands in the first text alone, or how many such lines there are.
 function ownLines(lines, others) {
   const all = new Set(others), own = lines.filter((line) => !all.has(line));
-  return own.length === 1 && own[0].trim() !== "" ? own[0].trim() : counted(own.length, "line") + " of its own";
+  return own.length === 1 && own[0].trim() !== "" ? own[0].trim().replace(/\s+/g, " ") : counted(own.length, "line") + " of its own";
 }
 
 // The keys whose values differ, and what else differs, as rows of three cells.
