@@ -128,9 +128,11 @@ function goToLine(line) {
   editors.assembly.goTo(line);
 }
 
-// A picture for paper, in parts of some rows, since a sheet may end between two alone. The program begins each row with the line ROW.
-const ROW = /^(?=<g class='(?:open|done|trap|out|stale)' transform='translate\(0 \d+\)')/m, HIGH = 18, ABOVE = 76;
+// A picture for paper, in parts of some rows, since a sheet may end between two alone. The program begins each row with the line ROW. (One of
+// more letters than these nobody could read on paper: it is whole there.)
+const ROW = /^(?=<g class='(?:open|done|trap|out|stale)' transform='translate\(0 \d+\)')/m, HIGH = 18, ABOVE = 76, MOST_PARTED = 1 << 22;
 function partsOf(text) {
+  if (text.length > MOST_PARTED) return [];
   const tail = /(?:^<g class='v' .*\n)*^<\/g>\n<\/svg>\s*$/m.exec(text)[0], [begin, ...rows] = text.slice(0, -tail.length).split(ROW);
   const [, wide, high] = /^<svg [^>]*width='(\d+)' height='(\d+)'/.exec(begin).map(Number), each = Math.ceil(wide / (8 * HIGH)), parts = [];
   // (a row ends above the numbers of cycles that stand again in front of some)
@@ -148,7 +150,7 @@ function picture(bytes, words) {
   const text = textOf(bytes), ofNight = text.replace("@media (prefers-color-scheme:dark)", "@media all");
   const drawn = (className, svg, alt = words) => element("img", { className, src: urlOf(svg, "image/svg+xml"), alt });
   const parts = partsOf(text).map((part, at) => drawn("", part, at === 0 ? words : ""));
-  return element("div", {}, drawn("day", bytes), drawn("night", ofNight), element("div", { className: "paper" }, ...parts));
+  return element("div", {}, drawn("day", bytes), drawn("night", ofNight), ...(parts.length ? [element("div", { className: "paper" }, ...parts)] : []));
 }
 
 function showPicture({ output, errors }) {
