@@ -2,7 +2,8 @@
 // message where they stand. TELL and TOUCH stand before them; they are no part of what is saved.
 const TELL = byId("tell").textContent;
 // (a finger needs more room than a mouse: WCAG 2.2, 2.5.8)
-const TOUCH = "<style>@media (pointer: coarse) { header :is(button, select, label, input:not([type=checkbox])) { min-width: 24px; min-height: 24px; } header label { display: inline-flex; align-items: center; gap: 0.3rem; } }</style>";
+const TOUCH = "<style>@media (pointer: coarse) { header :is(button, select, label, input:not([type=checkbox])) { min-width: 24px; min-height: 24px; }"
+  + " header label { display: inline-flex; align-items: center; gap: 0.3rem; } }</style>";
 let followed = "";
 let seenCycle;
 let marksPath = false;
