@@ -13,10 +13,10 @@ function forget() { if (!runs.isKept) Object.assign(runs, { before: undefined, n
 const cyclesOf = (run) => Number(countsOf(run.report).get("cycles"));
 const signed = (number) => (number > 0 ? "+" : number < 0 ? "\u2212" : "\u00b1") + grouped(Math.abs(number));
 
-// How many lines stand in the first text alone.
+// The line that stands in the first text alone, or how many such lines there are.
 function ownLines(lines, others) {
-  const all = new Set(others);
-  return counted(lines.filter((line) => !all.has(line)).length, "line") + " of its own";
+  const all = new Set(others), own = lines.filter((line) => !all.has(line));
+  return own.length === 1 && own[0].trim() !== "" ? own[0].trim().replace(/\s+/g, " ") : counted(own.length, "line") + " of its own";
 }
 
 // The keys whose values differ, and what else differs, as rows of three cells.

@@ -16,6 +16,11 @@ function separatorIn(job) {
   return undefined;
 }
 
+// The program shows a byte that is no sign of ASCII as a question mark, and its columns count bytes. The page shows letters and marks as they
+// are, where they are as wide as others.
+const shownByBytes = (text) => [...bytesOf(text)].map((byte) => (byte === 9 ? " " : byte < 32 || byte > 126 ? "?" : String.fromCharCode(byte))).join("");
+const legible = (text) => text.replace(/\t/g, " ").replace(/[^ -~\p{Script=Latin}\p{Script=Greek}\p{Script=Cyrillic}\p{P}\p{Sm}\p{Sc}]/gu, "?");
+
 class Refusal {
   constructor(errors, explanation, job) {
     this.errors = errors.trim();
@@ -26,10 +31,10 @@ class Refusal {
       const found = PLACE.exec(line);
       if (!found || found[2] !== this.part) return;
       const fault = { line: Number(found[1]) };
-      if (caret === k + 2) this.putColumns(fault, lines[k + 1], lines[caret], job[this.part].split("\n")[fault.line - 1] || "");
+      if (caret === k + 2) [lines[k + 1], lines[caret]] = this.putColumns(fault, lines[k + 1], lines[caret], job[this.part].split("\n")[fault.line - 1] || "");
       this.faults.push(fault);
     });
-    this.text = [this.errors, ...this.ownLines(explanation)].join("\n");
+    this.text = [this.errors, ...this.ownLines(lines.join("\n"))].join("\n");
     if (this.faults.length === 0) this.guess(job);
   }
 
@@ -39,12 +44,15 @@ class Refusal {
     return own[0] === "" || (own[0].startsWith("line ") && this.errors.endsWith(own[0])) ? own.slice(1) : own;
   }
 
-  // The shown line stands after four blanks; from the caret on the columns are those of the token.
+  // The shown line stands after four blanks; from the caret on the columns are those of the token. Answers both lines as they are to be seen.
   putColumns(fault, shown, caret, source) {
-    const at = Math.max(0, source.indexOf(shown.slice(4).trimEnd()));
-    fault.from = at + caret.indexOf("^") - 4;
+    const words = shown.slice(4), found = shownByBytes(source).indexOf(words.trimEnd()), at = Math.max(0, found);
+    const column = (byte) => textOf(bytesOf(source).subarray(0, byte)).length, begin = column(at);
+    fault.from = column(at + caret.indexOf("^") - 4);
     const token = /^(?:"(?:\\.|[^"\\])*"?|[^\s,()#]+|.)/.exec(source.slice(fault.from));
     fault.to = fault.from + (token ? token[0].length : 1);
+    const seen = (from, to) => legible(source.slice(from, to)), blanks = " ".repeat(4 + [...seen(begin, fault.from)].length);
+    return found < 0 ? [shown, caret] : ["    " + seen(begin, column(at + words.length)), blanks + "^"];
   }
 
   // Of a text that is no TOML the program names no line: the page looks for the first that its form cannot read.

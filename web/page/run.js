@@ -81,7 +81,7 @@ function setStale(on) {
 // What one does with a run that was cut off: asks why, or lets it go on up to the greatest limit.
 function waysOn() {
   const button = (textContent, onclick) => element("button", { type: "button", className: "link", textContent, onclick });
-  const why = button("why?", () => chooseView("explain")), further = button("up to " + grouped(MOST_CYCLES), () => takeLimit(MOST_CYCLES));
+  const why = button("why?", () => openTab("explain")), further = button("up to " + grouped(MOST_CYCLES), () => takeLimit(MOST_CYCLES));
   return [" ", why, ...(limit() < MOST_CYCLES ? [" ", further] : [])];
 }
 

@@ -28,14 +28,16 @@ function restNote(rest) {
   return rest === 0 ? "" : element("p", { className: "note", textContent: counted(rest, "line") + " more: save it to have them all." });
 }
 
-function showText({ output }, className = "") {
+function showText({ output }) {
   const { text, rest } = firstLines(output, MOST_LINES);
-  byId("shown").append(element("pre", { className, textContent: text }), restNote(rest));
+  byId("shown").append(element("pre", { textContent: text }), restNote(rest));
 }
 
-// Sentences, whose lines are as long as they need: they go on below where the window ends.
+// Sentences, whose lines are as long as they need: they go on below where the window ends. A line of the program that they name leads to it.
 function showSentences({ output }) {
-  showText({ output }, "sentences");
+  const { text, rest } = firstLines(output, MOST_LINES), words = text.split(/^(.*?\b[0-9a-f]{8}, )line (\d+)(?=: )/m);
+  const sentences = words.map((each, at) => (at % 3 === 2 ? lineButton(each, "line " + each) : each));
+  byId("shown").append(element("pre", { className: "sentences" }, ...sentences), restNote(rest));
 }
 
 const isOfCycles = (name) => name === "busy" || name.startsWith("stall ");
@@ -61,11 +63,11 @@ function cycleBar(counts) {
 // The names of x0 to x31 in the calling convention.
 const ABI = "zero ra sp gp tp t0 t1 t2 s0 s1 a0 a1 a2 a3 a4 a5 a6 a7 s2 s3 s4 s5 s6 s7 s8 s9 s10 s11 t3 t4 t5 t6".split(" ");
 
-// The state, with the other name of each register beside its line. That is drawn, and no part of the text.
+// The state, with the other name of each register beside its line. That is drawn, and no part of the text. What is zero is quiet.
 function stateOf(text) {
   const lines = text.split("\n").map((line) => {
     const number = (/^x(\d+) /.exec(line) || [])[1];
-    return element("span", { textContent: line, ...(number ? { "data-abi": ABI[number] } : {}) });
+    return element("span", { className: / 0{8}$/.test(line) ? "zero" : "", textContent: line, ...(number ? { "data-abi": ABI[number] } : {}) });
   });
   return element("pre", { className: "state" }, ...lines.flatMap((line, at) => (at === 0 ? [line] : ["\n", line])));
 }
@@ -95,15 +97,15 @@ function tableOf(lines, cellOf) {
   for (const row of body) row.cells[named]?.setAttribute("role", "rowheader");
   for (const row of [head, ...body]) if (row.cells[named]) row.cells[named].dataset.stays = "";
   const table = element("table", { className: "sheet" }, element("thead", {}, head), element("tbody", {}, ...body));
-  return element("div", { className: "scroll", tabIndex: 0, role: "region", "aria-label": "table" }, table);
+  return element("div", { className: "scroll", tabIndex: 0, role: "region", "aria-label": currentView.title + ", table" }, table);
 }
 
 const PICTURE = "A row for each fetched instruction, a column for each cycle: F fetch, D dispatch, I issue, B broadcast, C commit";
 const isFigure = (text) => /^[-+\u2212\u00b1]?[\d.,]*$|^[0-9a-f]{8}$/.test(text);
 
-function lineButton(line) {
+function lineButton(line, textContent = line) {
   const onclick = () => goToLine(Number(line));
-  return element("button", { type: "button", className: "link", textContent: line, title: "to this line of the program", onclick });
+  return element("button", { type: "button", className: "link", textContent, title: "to this line of the program", onclick });
 }
 
 // A table with a tab between two cells. The last column of a profile, the cycles at the head, has a bar; a line's number leads to it.
@@ -126,11 +128,29 @@ function goToLine(line) {
   editors.assembly.goTo(line);
 }
 
+// A picture for paper, in parts of some rows, since a sheet may end between two alone. The program begins each row with the line ROW. (One of
+// more letters than these nobody could read on paper: it is whole there.)
+const ROW = /^(?=<g class='(?:open|done|trap|out|stale)' transform='translate\(0 \d+\)')/m, HIGH = 18, ABOVE = 76, MOST_PARTED = 1 << 22;
+function partsOf(text) {
+  if (text.length > MOST_PARTED) return [];
+  const tail = /(?:^<g class='v' .*\n)*^<\/g>\n<\/svg>\s*$/m.exec(text)[0], [begin, ...rows] = text.slice(0, -tail.length).split(ROW);
+  const [, wide, high] = /^<svg [^>]*width='(\d+)' height='(\d+)'/.exec(begin).map(Number), each = Math.ceil(wide / (8 * HIGH)), parts = [];
+  // (a row ends above the numbers of cycles that stand again in front of some)
+  const endOf = (row) => ABOVE + Number(/\(0 (\d+)\)/.exec(row)[1]) + HIGH;
+  for (let at = 0, top = 0, end; at === 0 || at < rows.length; at += each, top = end) {
+    end = at + each < rows.length ? endOf(rows[at + each - 1]) : high;
+    const part = begin.replace(/^<svg [^>]*>/, `<svg xmlns='http://www.w3.org/2000/svg' width='${wide}' height='${end - top}' viewBox='0 ${top} ${wide} ${end - top}'>`);
+    parts.push(part + rows.slice(at, at + each).join("") + tail);
+  }
+  return parts;
+}
+
 // A picture in the colours of the day, and in those of the night, of which the style sheet shows one: WebKit tells no picture which it is.
 function picture(bytes, words) {
-  const ofNight = textOf(bytes).replace("@media (prefers-color-scheme:dark)", "@media all");
-  const drawn = (className, svg) => element("img", { className, src: urlOf(svg, "image/svg+xml"), alt: words });
-  return element("div", {}, drawn("day", bytes), drawn("night", ofNight));
+  const text = textOf(bytes), ofNight = text.replace("@media (prefers-color-scheme:dark)", "@media all");
+  const drawn = (className, svg, alt = words) => element("img", { className, src: urlOf(svg, "image/svg+xml"), alt });
+  const parts = partsOf(text).map((part, at) => drawn("", part, at === 0 ? words : ""));
+  return element("div", {}, drawn("day", bytes), drawn("night", ofNight), ...(parts.length ? [element("div", { className: "paper" }, ...parts)] : []));
 }
 
 function showPicture({ output, errors }) {

@@ -87,12 +87,19 @@ function chooseView(name, isEarly) {
   if (!isEarly) { writeAddress(); showView(); }
 }
 
+// A tab that a person chooses: in a narrow window what it shows stands at the window's end or past it, and one is led there.
+function openTab(name) {
+  chooseView(name);
+  byId("tab-" + name).focus();
+  if (isFarDown(byId("shown"))) byId("tabs").scrollIntoView();
+}
+
 // Ctrl+Enter, and with Alt a tab's number or J.
 function shortcut(key) {
-  if (key === "Enter") return run();
+  if (key === "Enter") return runAndShow();
   if (/^j$/i.test(key)) return setWide(!document.querySelector("main").classList.contains("wide"));
   const view = VIEWS[(Number(key) + 9) % 10];
-  if (view) { chooseView(view.name); byId("tab-" + view.name).focus(); }
+  if (view) openTab(view.name);
 }
 
 function setForm(on) {
@@ -133,10 +140,12 @@ function goToFault(part) {
   if (fault) editors[part].goTo(fault.line, fault.from);
 }
 
-// In a narrow window the result stands below the job, at the window's end or past it: who presses the button is led there, or to the fault.
+const isFarDown = (part) => part.getBoundingClientRect().top > 0.6 * innerHeight;
+
+// In a narrow window the result stands below the job: who presses the button or its key is led there, or to the fault.
 async function runAndShow() {
   const running = run();
-  if (byId("result").getBoundingClientRect().top > 0.6 * innerHeight) byId("result").scrollIntoView();
+  if (isFarDown(byId("result"))) byId("result").scrollIntoView();
   await running;
   PARTS.map((part) => byId("fault-" + part)).find((box) => !box.hidden)?.scrollIntoView({ block: "center" });
 }
@@ -211,7 +220,7 @@ async function start() {
   form = new MachineForm(byId("form"), KEYS, writeKey);
   listExamples();
   makeComparison();
-  makeTabs(chooseView);
+  makeTabs(openTab);
   chooseView("report", true);
   listen();
   if (!takeLeft() && !await readAddress()) loadExample(FIRST);
