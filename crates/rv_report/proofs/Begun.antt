@@ -1,5 +1,5 @@
 -- A tally begins with what is in flight: no step is counted, no event, and no place.
-use Rattle.std.proofs.Common.{◌≡◌, ◌∙◌, ℕ, ◌≤◌, List, [], length, Option, ap, arith}
+use Rattle.std.proofs.Common.{◌≡◌, ℕ, ◌≤◌, List, [], length, Option, ap, arith}
 use Rattle.rv_isa.specs.declared.lines.Arrival.{Arrival}
 use Rattle.rv_hardware.specs.Draining.{drain_end}
 use Rattle.rv_hardware.specs.Guided.{GuidedHardware}
@@ -31,12 +31,5 @@ pub begins_tallied : (arrivals : List Arrival) (first : GuidedHardware) (shown :
     places ≡ places_shown shown lent [] lent → length first.hardware.rob.entries ≤ 256 →
     IsTallied counts s events (watched arrivals first [] first)
     × HasPlaced places places (watched arrivals first [] first)
-begins_tallied arrivals first shown {inside} {lent} {counts} {s} {events} {places} inside_is lent_is zeros
-    speculated few_fetched
-    happened placed few = (
-      tallied_nothing arrivals first counts s events (counts_nothing zeros) (speculated
-          ∙ ap speculated_at (inside_is ∙ lent_is))
-          few_fetched (happened ∙ ap (λ (h : Hardware). events_so_far h.values (drain_end h) no_events) lent_is),
-      placed_nothing arrivals shown first places
-          (placed ∙ ap (λ (h : Hardware). places_shown shown h [] h) lent_is) few,
-    )
+begins_tallied arrivals first shown {inside} {lent} {counts} {s} {events} {places} inside_is lent_is zeros speculated few_fetched happened placed few =
+    grind (arith, tallied_nothing, counts_nothing, placed_nothing)

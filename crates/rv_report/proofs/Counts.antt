@@ -1,6 +1,6 @@
 -- Counts of the steps so far.
-use Rattle.std.proofs.Common.{◌≡◌, ◌∙◌, ℕ, ◌+◌, ◌<◌, ◌≤◌, Bool, true, false, List, [], length}
-use Rattle.std.proofs.Common.{take, get_or, count_by, refl, ap, sym, arith, length-take-le}
+use Rattle.std.proofs.Common.{◌≡◌, ◌∙◌, ℕ, ◌+◌, ◌<◌, ◌≤◌, Bool, List, [], length}
+use Rattle.std.proofs.Common.{take, get_or, count_by, ap, sym, arith, length-take-le}
 use Rattle.std.specs.Prelude.{if◌then◌else◌}
 use Rattle.std.proofs.lemmas.List.Sums.{count_by-le-length, count_by_more_no, count_by_more_yes}
 use Rattle.rv_hardware.specs.Step.{is_interrupt, is_retirement, is_trap}
@@ -11,12 +11,7 @@ use Rattle.rv_report.specs.declared.totals.StepCounts.{StepCounts}
 -- one item more is counted where it passes the test
 count_by-more : {X : Type 0} (p : X → Bool) (xs : List X) (place : ℕ) (other : X) → place < length xs →
     count_by p (take (place + 1) xs) ≡ count_by p (take place xs) + (if p (get_or xs place other) then 1 else 0)
-count_by-more p xs place other here = go (p (get_or xs place other)) refl
-  where
-    go : (b : Bool) → p (get_or xs place other) ≡ b → count_by p (take (place + 1) xs) ≡ count_by p (take place xs)
-        + (if b then 1 else 0)
-    go true is = count_by_more_yes p xs place other here is
-    go false is = count_by_more_no p xs place other here is ∙ omega arith
+count_by-more p xs place other here = grind (arith, count_by_more_yes, count_by_more_no)
 
 -- no more steps are counted of a sort than there are
 pub record AreFew (most : ℕ) (counts : StepCounts) : Type 0 where
@@ -31,11 +26,7 @@ counts_nothing zeros = λ i. record { retired = zeros.0 i; traps = zeros.1.0 i; 
 
 -- the counts of some steps
 pub counts_few : {counts : StepCounts} (steps : List Step) → counts ≡ counts_of steps → AreFew (length steps) counts
-counts_few steps is = rw is (record {
-  retired = count_by-le-length is_retirement steps;
-  traps = count_by-le-length is_trap steps;
-  interrupts = count_by-le-length is_interrupt steps;
-})
+counts_few steps is = grind (arith, count_by-le-length)
 
 -- the counts of the first steps
 module _ {counts : StepCounts} (steps : List Step) (place : ℕ) (here : place < length steps)

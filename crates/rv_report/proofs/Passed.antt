@@ -1,18 +1,17 @@
 -- What is counted of a run for a comparison is what the passages of its instructions say, counted as a profile counts them.
 use Rattle.std.proofs.Common.{◌≡◌, ◌∙◌, ℕ, suc, ◌+◌, ◌-◌, ◌^◌, ◌≤◌, ◌<◌, ◌==◌}
-use Rattle.std.proofs.Common.{nat_lt, Bool, true, false, cond, List, [], ◌∷◌, ◌++◌}
+use Rattle.std.proofs.Common.{Bool, true, false, cond, List, [], ◌∷◌, ◌++◌}
 use Rattle.std.proofs.Common.{length, map, filter, take, drop, count_by, Option}
 use Rattle.std.proofs.Common.{Some, None, refl, sym, ap, subst, arith, inl, inr}
-use Rattle.std.proofs.Common.{eq-eqb, ne_eqb, ltb-true, lt-ltb, length-append, length-drop, not}
+use Rattle.std.proofs.Common.{eq-eqb, ne_eqb, ltb-true, length-append, length-drop}
 use Rattle.std.specs.Prelude.{if◌then◌else◌}
-use Rattle.std.proofs.lemmas.Bool.{cases_Bool, false≢true}
+use Rattle.std.proofs.lemmas.Bool.{cases_Bool}
 use Rattle.std.proofs.lemmas.List.{drop-map, length-map}
 use Rattle.std.proofs.lemmas.List.Elements.{filter-append}
 use Rattle.std.proofs.lemmas.List.Filters.{length-filter_both}
 use Rattle.std.proofs.lemmas.List.Sums.{count_by-le-length, length-filter, sum_by-cons}
 use Rattle.rv_hardware.proofs.Words.{Each}
-use Rattle.rv_isa.specs.Instruction.{is_branch_or_jump}
-use Rattle.rv_isa.specs.declared.{instructions.Instr.Instr, lines.Arrival.Arrival, lines.Lines.Lines}
+use Rattle.rv_isa.specs.declared.{lines.Arrival.Arrival, lines.Lines.Lines}
 use Rattle.rv_front.specs.FetchBuffer.{Answers}
 use Rattle.rv_front.specs.declared.fetched.Fetched.{Fetched}
 use Rattle.rv_rob.specs.declared.entry.Entry.{Entry}
@@ -32,9 +31,9 @@ use Rattle.rv_hardware.proofs.AnyPrediction.{any_cycle}
 use Rattle.rv_hardware.proofs.Each.{Each-weaker}
 use Rattle.rv_hardware.proofs.Marks.History.{Anything, Passed, history_passes, reachable_has_history}
 use Rattle.rv_hardware.proofs.Onward.{cycle-goes_on, fetched-before, left_by-each}
-use Rattle.rv_passage.specs.Passage.{in_buffers, is_in_flight, is_running, is_squash, numbered, of_entry, of_fetched}
+use Rattle.rv_passage.specs.Passage.{in_buffers, is_in_flight, is_squash, numbered, of_entry, of_fetched}
 use Rattle.rv_passage.specs.Passage.{retired_by, squashed_in, trapped_by}
-use Rattle.rv_passage.specs.Prediction.{differ, is_mispredicted, next_of, prediction_of}
+use Rattle.rv_passage.specs.Prediction.{differ, is_mispredicted, prediction_of}
 use Rattle.rv_passage.specs.Producers.{standing_at}
 use Rattle.rv_passage.specs.Shown.{Show, more, nothing}
 use Rattle.rv_passage.specs.Table.{Passages, after_cycle, next_before, numbered_from}
@@ -87,28 +86,13 @@ abbrev Fails : (Passage → Bool) → Type 0
 Fails test = (p : Passage) → is_in_flight p ≡ true → test p ≡ false
 
 unended : Fails was_ended
-unended p flies = running p.ending flies where
-  running : (e : Ending) → is_running e ≡ true → is_over e ≡ false
-  running ending.InFlight flies = refl
-  running (ending.Retired order cycle written next) flies = absurd (false≢true flies)
-  running (ending.Trapped cycle cause) flies = absurd (false≢true flies)
-  running (ending.Squashed cycle) flies = refl
+unended p flies = grind arith
 
 unsquashed : Fails was_squashed
-unsquashed p flies = running p.ending flies where
-  running : (e : Ending) → is_running e ≡ true → is_squash e ≡ false
-  running ending.InFlight flies = refl
-  running (ending.Retired order cycle written next) flies = refl
-  running (ending.Trapped cycle cause) flies = refl
-  running (ending.Squashed cycle) flies = absurd (false≢true flies)
+unsquashed p flies = grind arith
 
 unmissed : Fails is_mispredicted
-unmissed p flies = ap (differ (prediction_of p)) (running p.ending flies) ∙ differ-none (prediction_of p) where
-  running : (e : Ending) → is_running e ≡ true → next_of e ≡ None
-  running ending.InFlight flies = refl
-  running (ending.Retired order cycle written next) flies = absurd (false≢true flies)
-  running (ending.Trapped cycle cause) flies = refl
-  running (ending.Squashed cycle) flies = refl
+unmissed p flies = grind (arith, differ-none)
 
 -- ---- the steps of a cycle
 
@@ -283,11 +267,7 @@ module _ (cycle : ℕ) where
       rw (eq-eqb n.fetched cycle (shows.fetched ∙ new.0)) (ap (λ l. n ∷ l) (fresh-all new.1 rest))
 
   few-fresh : (now : List Passage) → length (fresh now) ≤ length now
-  few-fresh now = omega (
-    arith,
-    length-filter (λ (p : Passage). p.fetched == cycle) now,
-    count_by-le-length (λ (p : Passage). p.fetched == cycle) now,
-  )
+  few-fresh now = grind (arith, length-filter, fetched, count_by-le-length)
 
   numbered-predicted : (number : ℕ) {fs : List Flight} {ps : List Passage} → Show fs ps →
       predicted (numbered_from number ps) ≡ map prediction_of ps
@@ -317,26 +297,13 @@ module _ (cycle : ℕ) where
   one-stands : {ps now rows : List Passage} (p n : Passage) (older : List Passage) → Moved ps now rows →
       is_in_flight p ≡ true → is_in_flight n ≡ true → n.fetched < cycle → n.instruction ≡ p.instruction →
       Moved (p ∷ ps) (n ∷ now) (standing_at older n p ∷ rows)
-  one-stands {ps} {now} {rows} p n older rest flies still before same =
-      let old : (n.fetched == cycle) ≡ false = ne_eqb n.fetched cycle (omega (arith, before)) in
-      let kept = length now - length (fresh now) in
-      let left : suc (length now) - length (fresh now) ≡ suc kept = omega (arith, few-fresh now) in
-      let stands : prediction_of (standing_at older n p) ≡ prediction_of p =
-      ap (λ (i : Option Instr). if is_branch_or_jump i then p.predicted else None) same in
-      record {
-        predictions = rw (flies, still, old) ((λ i. stands i ∷ rest.predictions i)
-            ∙ ap (λ k. take k (prediction_of p ∷ predicted ps) ++ map prediction_of (fresh now)) (sym left));
-        count = rw old (omega (arith, rest.count));
-      }
+  one-stands {ps} {now} {rows} p n older rest flies still before same = grind (arith, fetched, few-fresh, stands)
 
   -- one that goes on is not squashed
   goes-first : {f : Flight} {news : List Flight} {now : List Passage} → Show (f ∷ news) now →
       next_before cycle now ≡ None →
       f.fetched < cycle → ⊥
-  goes-first (more {p = n} is here) none before =
-      let first : nat_lt n.fetched cycle ≡ true = lt-ltb n.fetched cycle (omega (arith, is.fetched, before)) in
-      let some : Some n ≡ None = rw first at none in
-      cc
+  goes-first given none before = grind (arith, more, fetched)
 
   abbrev Moves : List Passage → List Passage → List Passage → Type 0
   Moves ps now rows = (olds news : List Flight) → GoOn cycle olds news → Each (IsFetchedBefore cycle) olds →
@@ -425,10 +392,7 @@ module _ (test : Passage → Bool) where
   module _ (fails : Fails test) where
     -- none is so that did not leave
     many-left : (ps : List Passage) → many test (filter has_left ps) ≡ many test ps
-    many-left ps = ap length (filter-among has_left test (λ p here. fails p (flies (is_in_flight p) here)) ps) where
-      flies : (is : Bool) → not is ≡ false → is ≡ true
-      flies true here = refl
-      flies false here = sym here
+    many-left ps = grind (arith, filter-among)
 
     many-open : (ps : List Passage) → many test (filter is_in_flight ps) ≡ 0
     many-open [] = refl

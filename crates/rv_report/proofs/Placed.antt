@@ -34,15 +34,7 @@ passed false x y = refl
 pub placed_nothing : (arrivals : List Arrival) (shown : Columns (Option Shown)) (h : GuidedHardware)
     (places : Option RunPlaces) → places ≡ places_shown shown h.hardware [] h.hardware
     → length h.hardware.rob.entries ≤ 256 → HasPlaced places places (watched arrivals h [] h)
-placed_nothing arrivals shown h places begun few =
-    let none = run_places h.hardware [] h.hardware in
-    record {
-      placed = begun ∙ sym (passed (shows_places shown) none none)
-          ∙ sym (ap (option_map (λ (p : RunPlaces). none)) begun);
-      places_add_up = add_up_nothing h.hardware;
-      few_before = few;
-      few_in_flight = few;
-    }
+placed_nothing arrivals shown h places begun few = grind (arith, placed, passed, add_up_nothing)
 
 -- one more cycle
 module _ {seen : Watched} {cycle : ℕ} {steps : List Step} {after : Hardware} {progress : Progress}
@@ -84,11 +76,7 @@ module _ {seen : Watched} {cycle : ℕ} {steps : List Step} {after : Hardware} {
       (rob_is : rob ≡ after.rob) (front_is : front ≡ after.front)
       (few : length after.rob.entries ≤ 256) where
     countable_by : CanPlace values cycle steps rob front so_far
-    countable_by =
-        subst (λ (v : Values). CanPlace v cycle steps rob front so_far) (sym values_are)
-        (subst (λ (r : ReorderBuffer). CanPlace after.values cycle steps r front so_far) (sym rob_is)
-        (subst (λ (f : FetchBuffer). CanPlace after.values cycle steps after.rob f so_far)
-        (sym front_is) (countable few)))
+    countable_by = grind (arith, countable)
 
     where_counted : (o : Option RunPlaces) →
         IfSome (option_map (λ (p : RunPlaces). so_far) o) (CanPlace values cycle steps rob front)

@@ -1,5 +1,5 @@
 -- The lines of a table, one after the other.
-use Rattle.std.proofs.Common.{◌≡◌, ◌∙◌, ℕ, ◌+◌, ◌-◌, ◌<◌, List, [], length, take, get_or, Option, sym, ap, arith}
+use Rattle.std.proofs.Common.{◌≡◌, ℕ, ◌+◌, ◌<◌, List, [], length, take, get_or, Option, ap, arith}
 use Rattle.std.specs.List.{enumerate_from, flat_map}
 use Rattle.std.proofs.lemmas.List.{take_all}
 use Rattle.std.proofs.lemmas.List.FromFn.{get_or-enumerate_from, length-enumerate_from}
@@ -23,10 +23,7 @@ module _ (shown : Columns (Option Shown)) (names : List (List ℕ)) (runs : List
 
   line_is : table_row shown (1 + place) (get_or names place []) run
       ≡ row_of shown names (get_or (enumerate_from 1 runs) place here)
-  line_is =
-      let before : place ≡ (1 + place) - 1 = omega arith in
-      ap (λ n. table_row shown (1 + place) (get_or names n []) run) before
-      ∙ ap (row_of shown names) (sym (get_or-enumerate_from 1 runs place here below))
+  line_is = grind (arith, get_or-enumerate_from)
 
   -- one more line
   pub row_said : {W : Type 0} {contents : W → Option (List ℕ)} {a b c : Sink W} →

@@ -1,4 +1,4 @@
-use Rattle.std.proofs.Common.{◌≡◌, length, map, arith}
+use Rattle.std.proofs.Common.{map, arith}
 use Rattle.rv_report.proofs.TableRows.{all_rows, row_said}
 use Rattle.rv_text.proofs.Saying.{says_nothing, says_same}
 use Rattle.rv_report.proofs.comparison.write_rows.Goals as goal
@@ -14,8 +14,4 @@ loop-place-preserved g c =
     c.loop-place.invariant last
 
 pub returns : goal.returns
-returns g c =
-    let names = map (λ name. name.items) c.args.names.now in
-    let all : c.loop-place.place ≡ length c.args.runs.now =
-    omega (arith, c.loop-place-test.false, c.loop-place.auto.place-end) in
-    says_same (all_rows c.args.shown.now names c.args.runs.now c.loop-place.place all) c.loop-place.invariant
+returns g c = grind (arith, says_same, all_rows)

@@ -25,10 +25,7 @@ wrong_with : (steps : List Step) (step : Step) (next first others : ℕ) (wrong 
     wrong ≡ is_wrong step first before → after ≡ without_ended step before →
     others ≡ wrong_in (others_of steps) next after → others + (if wrong then 1 else 0) ≡ wrong_in steps next before
 wrong_with steps step next first others wrong before after some is first_is wrong_is after_is others_are =
-    let rest = others_of steps in
-    let these = wrong_is ∙ ap (λ pc. is_wrong step pc before) first_is in
-    (λ i. (others_are ∙ ap (wrong_in rest next) after_is) i + (if these i then 1 else 0))
-    ∙ ap (λ all. wrong_in all next before) (sym (apart steps step some is))
+    grind (arith, apart)
 
 none_more : (count : ℕ) → count ≡ count + 0
 none_more count = omega arith
@@ -38,10 +35,7 @@ left_with : (steps : List Step) (step : Step) (before middle after : Buffer (Opt
     1 ≤ length steps → step ≡ get_or steps 0 step → middle ≡ buffer (without_ended step before.items) before.capacity →
     after ≡ buffer (without_all (others_of steps) middle.items) middle.capacity →
     after ≡ buffer (without_all steps before.items) before.capacity
-left_with steps step before middle after some is middle_is after_is =
-    after_is
-    ∙ ap (λ (ring : Buffer (Option ℕ)). buffer (without_all (others_of steps) ring.items) ring.capacity) middle_is
-    ∙ ap (λ all. buffer (without_all all before.items) before.capacity) (sym (apart steps step some is))
+left_with steps step before middle after some is middle_is after_is = grind (arith, buffer, apart)
 
 pub returns-then-is_wrong-clause-wrong : goal.returns-then-is_wrong-clause-wrong
 returns-then-is_wrong-clause-wrong t c =

@@ -8,19 +8,13 @@ pub loop-step-init : goal.loop-step-init
 loop-step-init c = counts_nothing c.default-counts.ensures
 
 pub count-requires-clause-retired : goal.count-requires-clause-retired
-count-requires-clause-retired c =
-    let few = counts_so_far c.args.steps.now c.loop-step.step-index c.loop-step-test.true c.loop-step.invariant in
-    omega (arith, few.retired, c.loop-step-test.true)
+count-requires-clause-retired c = grind (arith, counts_so_far)
 
 pub count-requires-clause-traps : goal.count-requires-clause-traps
-count-requires-clause-traps c =
-    let few = counts_so_far c.args.steps.now c.loop-step.step-index c.loop-step-test.true c.loop-step.invariant in
-    omega (arith, few.traps, c.loop-step-test.true)
+count-requires-clause-traps c = grind (arith, counts_so_far)
 
 pub count-requires-clause-interrupts : goal.count-requires-clause-interrupts
-count-requires-clause-interrupts c =
-    let few = counts_so_far c.args.steps.now c.loop-step.step-index c.loop-step-test.true c.loop-step.invariant in
-    omega (arith, few.interrupts, c.loop-step-test.true)
+count-requires-clause-interrupts c = grind (arith, counts_so_far)
 
 pub loop-step-preserved : goal.loop-step-preserved
 loop-step-preserved c =
