@@ -43,31 +43,27 @@ spelling_line name known =
 abbrev pub aligns_to_power : List ℕ → Bool
 aligns_to_power name = bytes_eq name (codes ".align") || bytes_eq name (codes ".p2align")
 
--- the line on an unknown mnemonic that no other stands for, which is so in small letters: nothing of one that has a
--- hint
-unfoldable pub unfamiliar_line : List ℕ → List ℕ → List (List ℕ) → List ℕ
-unfamiliar_line small name known = if length (foreign_hint small) == 0 then spelling_line name known else []
+-- the line on the spelling of an unknown name, unless a hint says more of it
+unfoldable pub line_without : List ℕ → List ℕ → List (List ℕ) → List ℕ
+line_without hint name known = if length hint == 0 then spelling_line name known else []
 
 -- the line on an unknown mnemonic, which is so in small letters
 unfoldable pub small_line : List ℕ → List ℕ → List (List ℕ) → List ℕ
 small_line small name known =
     if aligns_to_power small then codes "nearest: .balign, in bytes: .balign 4 for .align 2, .balign 8 for .align 3\n"
     else if bytes_eq small (codes ".section") then names_line (codes ".text" ∷ codes ".data" ∷ [])
-    else option_map_or (λ other. names_line (other ∷ [])) (counterpart small) (unfamiliar_line small name known)
+    else option_map_or (λ other. names_line (other ∷ [])) (counterpart small)
+    (line_without (foreign_hint small) name known)
 
 -- the line on an unknown mnemonic: those of other assemblers and machines may have capital letters
 unfoldable pub mnemonic_line : List ℕ → List (List ℕ) → List ℕ
 mnemonic_line name known = small_line (in_small_letters name) name known
 
--- the line on an unknown CSR: nothing of one that has a hint
-unfoldable pub csr_line : List ℕ → List (List ℕ) → List ℕ
-csr_line name known = if length (csr_hint name) == 0 then spelling_line name known else []
-
 -- the line on an unknown name of assembly; that of a symbol may have capital letters
 unfoldable pub known_line : AsmFault → List ℕ → List (List ℕ) → List ℕ
 known_line UnknownMnemonic name known = mnemonic_line name known
 known_line UnknownSymbol name known = names_line (nearest name known)
-known_line BadOperands name known = csr_line name known
+known_line BadOperands name known = line_without (csr_hint name) name known
 known_line _ name known = spelling_line name known
 
 -- that on the unknown name of a line at fault with these tokens, where its fault is one of a name, of an assembly that

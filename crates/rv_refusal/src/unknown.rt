@@ -2,8 +2,8 @@ ghost use Rattle.std.specs.Prelude.{◌≡◌, ◌++◌, OnOk, map, option_copie
 ghost use Rattle.rv_asm.specs.Read.{tokens_in};
 ghost use Rattle.rv_refusal.specs.Names.{known_names, names_csr, takes_csr, unknown_name};
 ghost use Rattle.rv_refusal.specs.NameSet.{holds};
-ghost use Rattle.rv_refusal.specs.Near.{aligns_to_power, csr_line, known_line, mnemonic_line, nearest_line};
-ghost use Rattle.rv_refusal.specs.Near.{small_line, unfamiliar_line};
+ghost use Rattle.rv_refusal.specs.Near.{aligns_to_power, known_line, line_without, mnemonic_line};
+ghost use Rattle.rv_refusal.specs.Near.{nearest_line, small_line};
 
 use crate::counterpart::counterpart;
 use crate::culprit::operand_of_fault;
@@ -83,19 +83,19 @@ fn aligns_to_power(name: &[u8]) -> bool
     name == b".align".as_slice() || name == b".p2align".as_slice()
 }
 
-// Appends the line on an unknown mnemonic that no other stands for, which is so in small letters.
-#[tactic(auto, unfolding(crate::specs::Near::unfamiliar_line))]
-fn add_unfamiliar_line(
+// Appends the line on the spelling of an unknown name, unless a hint says more of it.
+#[tactic(auto, unfolding(crate::specs::Near::line_without))]
+fn add_line_without(
     alloc: Global,
     out: &mut Vec<u8>,
-    small: &[u8],
+    hint: &[u8],
     name: &[u8],
     known: &[&[u8]],
 ) -> Result<(), AllocError>
     ensures { OnOk result (out.new.items
-        ≡ out.old.items ++ unfamiliar_line small.now name.now (map (λ other. other.now) known.now)) }
+        ≡ out.old.items ++ line_without hint.now name.now (map (λ other. other.now) known.now)) }
 {
-    if foreign_hint(small).is_empty() {
+    if hint.is_empty() {
         return add_spelling_line(alloc, out, name, known);
     }
     Ok(())
@@ -124,7 +124,7 @@ fn add_small_line(
     }
     match counterpart(small) {
         Some(other) => add_names_line(out, &[other]),
-        None => add_unfamiliar_line(alloc, out, small, name, known),
+        None => add_line_without(alloc, out, foreign_hint(small), name, known),
     }
 }
 
@@ -141,23 +141,6 @@ fn add_mnemonic_line(
 {
     let small = name.to_ascii_lowercase(alloc)?;
     add_small_line(alloc, out, small.as_slice(), name, known)
-}
-
-// Appends the line on an unknown CSR.
-#[tactic(auto, unfolding(crate::specs::Near::csr_line))]
-fn add_csr_line(
-    alloc: Global,
-    out: &mut Vec<u8>,
-    name: &[u8],
-    known: &[&[u8]],
-) -> Result<(), AllocError>
-    ensures { OnOk result (out.new.items
-        ≡ out.old.items ++ csr_line name.now (map (λ other. other.now) known.now)) }
-{
-    if csr_hint(name).is_empty() {
-        return add_spelling_line(alloc, out, name, known);
-    }
-    Ok(())
 }
 
 // Appends the line on an unknown name by those that may stand in its place, where these symbols are defined.
@@ -177,7 +160,9 @@ fn add_known(
     match fault {
         AsmFault::UnknownMnemonic => add_mnemonic_line(alloc, out, name, known.as_slice()),
         AsmFault::UnknownSymbol => add_nearest(alloc, out, name, known.as_slice()),
-        AsmFault::BadOperands => add_csr_line(alloc, out, name, known.as_slice()),
+        AsmFault::BadOperands => {
+            add_line_without(alloc, out, csr_hint(name), name, known.as_slice())
+        }
         _ => add_spelling_line(alloc, out, name, known.as_slice()),
     }
 }
