@@ -92,6 +92,12 @@ open-with_oldest change (p ∷ ps) = elim (cases_Bool (is_in_flight p)) [
   | inr ended ↦ rw ended (rw ended (open-with_oldest change ps))
 ]
 
+-- so of the rows after the dropped ones, of which so many were in flight, all but one still are
+pub known-with_oldest : (change : Passage → Passage) (n known left : ℕ) (old read now new : List Passage) → new ≡ now →
+    read ≡ old → drop n now ≡ with_oldest change (drop n read) → known ≤ length (filter is_in_flight (drop n old)) →
+    left ≡ known - 1 → left ≤ length (filter is_in_flight (drop n new))
+known-with_oldest change n known left old read now new is was changed were less = grind (arith, open-with_oldest)
+
 -- all that is in the buffers is in flight
 pub buffers-open : (rob : ReorderBuffer) (front : FetchBuffer) → list_all is_in_flight (in_buffers rob front) ≡ true
 buffers-open rob front = entries-open rob.entries where

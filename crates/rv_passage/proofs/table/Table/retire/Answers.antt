@@ -1,24 +1,11 @@
-use Rattle.std.proofs.Common.{◌∙◌, List, length, drop, filter, ap, arith}
+use Rattle.std.proofs.Common.{◌∙◌, arith}
 use Rattle.std.proofs.lemmas.List.{with_items_is}
-use Rattle.rv_passage.specs.Passage.{is_in_flight, retired_by}
-use Rattle.rv_passage.specs.Table.{with_oldest}
-use Rattle.rv_passage.specs.declared.passage.Passage.{Passage}
-use Rattle.rv_passage.proofs.Dropped.{open-with_oldest}
+use Rattle.rv_passage.proofs.Dropped.{known-with_oldest}
 use Rattle.rv_passage.proofs.table.Table.retire.Goals as goal
 
 pub invariant_of-self-clause-known : goal.invariant_of-self-clause-known
 invariant_of-self-clause-known c =
     let all = c.args.self.now in
-    let change = retired_by c.args.row.now all.retired c.args.next in
-    let count = λ (rows : List Passage). length (filter is_in_flight rows) in
     let items = with_items_is all.rows c.retire_kept.new.rows (c.retire_kept.auto.rows ∙ c.as_mut_slice.ensures.len) in
-    let rows =
-    ap (λ (l : List Passage). count (drop all.dropped l)) items ∙ ap count c.retire_kept.ensures
-    ∙ ap (λ (l : List Passage). count (with_oldest change (drop all.dropped l))) c.as_mut_slice.ensures.value in
-    omega (
-      arith,
-      rows,
-      open-with_oldest change (drop all.dropped all.rows.items),
-      all.known,
-      c.saturating_sub-self.ensures,
-    )
+    known-with_oldest _ all.dropped all.in_flight _ all.rows.items _ _ _ items c.as_mut_slice.ensures.value
+    c.retire_kept.ensures all.known (omega (arith, c.saturating_sub-self.ensures))
