@@ -1,20 +1,18 @@
 -- Room for more counts.
-use Rattle.std.proofs.Common.{◌≡◌, ℕ, zero, suc, ◌+◌, ◌-◌, ◌^◌, ◌≤◌, Bool, true, false, List, []}
-use Rattle.std.proofs.Common.{◌∷◌, length, take, filter, Option, Some, None, arith, ap, sym, subst}
+use Rattle.std.proofs.Common.{◌≡◌, ℕ, zero, suc, ◌+◌, ◌-◌, ◌^◌, ◌<◌, ◌≤◌, Bool, true, false, List, []}
+use Rattle.std.proofs.Common.{◌∷◌, length, get_or, take, drop, filter, Option, Some, None, arith, ap, sym, subst}
+use Rattle.std.proofs.lemmas.List.{length-drop}
 use Rattle.std.proofs.lemmas.List.Sums.{count_by-le-length, length-filter}
 use Rattle.rv_cache.specs.WriteBack.{Each}
-use Rattle.rv_passage.specs.Prediction.{is_mispredicted}
 use Rattle.rv_passage.specs.declared.passage.{Ending.Ending, Passage.Passage}
 use Rattle.rv_passage.specs.declared.passage.Ending.TheVariants as ending
 use Rattle.rv_counts.specs.Counts.{CanCount, IsWithin, added, nothing_at, once_more_at_head, one_more, with_ended}
 use Rattle.rv_counts.specs.Following.{CanCountMore, HasRoom, Profiled, with_head, with_passages}
 use Rattle.rv_counts.specs.Order.{address_of, with_change}
-use Rattle.rv_counts.specs.Load.{is_hit, is_miss, load_cost}
-use Rattle.rv_counts.specs.Passing.{broadcast_wait, dispatch_wait, issue_wait, retirement_wait}
 use Rattle.rv_counts.specs.Wait.{Waited, with_wait}
 use Rattle.rv_counts.specs.declared.{counts.WordCounts.WordCounts, loads.LoadCosts.LoadCosts}
 use Rattle.rv_passage.proofs.ByAddress.{by_place, length-change}
-use Rattle.rv_counts.proofs.Changes.{each-by, each-change}
+use Rattle.rv_counts.proofs.Changes.{each-at, each-by, each-change}
 
 waits-within : (wait : Option ℕ) (w : Waited) → (with_wait wait w).count ≤ w.count + 1
 waits-within None w = omega arith
@@ -27,96 +25,24 @@ one_more-within false count = omega arith
 
 module _ (most : ℕ) where
   pub nothing-within : (address : ℕ) → IsWithin most (nothing_at address)
-  nothing-within address = record {
-    fetched = omega arith;
-    retired = omega arith;
-    squashed = omega arith;
-    dispatch = omega arith;
-    issue = omega arith;
-    broadcast = omega arith;
-    retirement = omega arith;
-    hits = omega arith;
-    misses = omega arith;
-    mispredicted = omega arith;
-    head_cycles = omega arith;
-  }
+  nothing-within address = grind arith
 
   -- what is within a bound is within a greater one
   pub within-more : (more : ℕ) (w : WordCounts) → most ≤ more → IsWithin most w → IsWithin more w
-  within-more more w over is = record {
-    fetched = omega (arith, over, is.fetched);
-    retired = omega (arith, over, is.retired);
-    squashed = omega (arith, over, is.squashed);
-    dispatch = omega (arith, over, is.dispatch);
-    issue = omega (arith, over, is.issue);
-    broadcast = omega (arith, over, is.broadcast);
-    retirement = omega (arith, over, is.retirement);
-    hits = omega (arith, over, is.hits);
-    misses = omega (arith, over, is.misses);
-    mispredicted = omega (arith, over, is.mispredicted);
-    head_cycles = omega (arith, over, is.head_cycles);
-  }
+  within-more more w over is = grind arith
 
   fetched-within : (w : WordCounts) → IsWithin most w → IsWithin (most + 1) (record w { fetched = w.fetched + 1 })
-  fetched-within w is = record {
-    fetched = omega (arith, is.fetched);
-    retired = omega (arith, is.retired);
-    squashed = omega (arith, is.squashed);
-    dispatch = omega (arith, is.dispatch);
-    issue = omega (arith, is.issue);
-    broadcast = omega (arith, is.broadcast);
-    retirement = omega (arith, is.retirement);
-    hits = omega (arith, is.hits);
-    misses = omega (arith, is.misses);
-    mispredicted = omega (arith, is.mispredicted);
-    head_cycles = omega (arith, is.head_cycles);
-  }
+  fetched-within w is = grind arith
 
   ended-within : (e : Ending) (costs : LoadCosts) (p : Passage) (w : WordCounts) → IsWithin most w →
       IsWithin (most + 1) (with_ended e costs p (record w { fetched = w.fetched + 1 }))
-  ended-within (ending.Retired order cycle written next) costs p w is = record {
-    fetched = omega (arith, is.fetched);
-    retired = omega (arith, is.retired);
-    squashed = omega (arith, is.squashed);
-    dispatch = omega (arith, is.dispatch, waits-within (dispatch_wait p) w.dispatch);
-    issue = omega (arith, is.issue, waits-within (issue_wait p) w.issue);
-    broadcast = omega (arith, is.broadcast, waits-within (broadcast_wait p) w.broadcast);
-    retirement = omega (arith, is.retirement, waits-within (retirement_wait p) w.retirement);
-    hits = omega (arith, is.hits, one_more-within (is_hit costs (load_cost p)) w.hits);
-    misses = omega (arith, is.misses, one_more-within (is_miss costs (load_cost p)) w.misses);
-    mispredicted = omega (arith, is.mispredicted, one_more-within (is_mispredicted p) w.mispredicted);
-    head_cycles = omega (arith, is.head_cycles);
-  }
-  ended-within (ending.Squashed cycle) costs p w is = record {
-    fetched = omega (arith, is.fetched);
-    retired = omega (arith, is.retired);
-    squashed = omega (arith, is.squashed);
-    dispatch = omega (arith, is.dispatch);
-    issue = omega (arith, is.issue);
-    broadcast = omega (arith, is.broadcast);
-    retirement = omega (arith, is.retirement);
-    hits = omega (arith, is.hits);
-    misses = omega (arith, is.misses);
-    mispredicted = omega (arith, is.mispredicted);
-    head_cycles = omega (arith, is.head_cycles);
-  }
+  ended-within (ending.Retired order cycle written next) costs p w is = grind (arith, waits-within, one_more-within)
+  ended-within (ending.Squashed cycle) costs p w is = grind arith
   ended-within (ending.Trapped cycle cause) costs p w is = fetched-within w is
   ended-within ending.InFlight costs p w is = fetched-within w is
 
   head-within : (w : WordCounts) → IsWithin most w → IsWithin (most + 1) (once_more_at_head w)
-  head-within w is = record {
-    fetched = omega (arith, is.fetched);
-    retired = omega (arith, is.retired);
-    squashed = omega (arith, is.squashed);
-    dispatch = omega (arith, is.dispatch);
-    issue = omega (arith, is.issue);
-    broadcast = omega (arith, is.broadcast);
-    retirement = omega (arith, is.retirement);
-    hits = omega (arith, is.hits);
-    misses = omega (arith, is.misses);
-    mispredicted = omega (arith, is.mispredicted);
-    head_cycles = omega (arith, is.head_cycles);
-  }
+  head-within w is = grind arith
 
   -- a change by which no count grows by more than one
   change-within : (address : ℕ) (change : WordCounts → WordCounts) →
@@ -150,12 +76,18 @@ can_count-each words can =
     each-by words (λ w is. within-more can.most (2 ^ 50 - 2) w (omega (arith, can.countable)) is) can.counts
 
 -- so can those among which there are some of an address then
-pub can_count-begun : (address : ℕ) (old new : List WordCounts) → new ≡ with_change address (λ w. w) old →
+can_count-begun : (address : ℕ) (old new : List WordCounts) → new ≡ with_change address (λ w. w) old →
     CanCountMore old 1 → Each CanCount new
 can_count-begun address old new begun can =
     subst (λ (words : List WordCounts). Each CanCount words) (sym begun)
     (each-change address (λ w. w) CanCount (λ w is. is) (nothing-within (2 ^ 50 - 2) address) old
     (can_count-each old can))
+
+-- and so can those that are read at a place of them
+pub can_count-at : (address : ℕ) (old new : List WordCounts) (place : ℕ) (d read : WordCounts) → CanCountMore old 1 →
+    new ≡ with_change address (λ w. w) old → place < length new → read ≡ get_or new place d → CanCount read
+can_count-at address old new place d read can begun within is =
+    subst CanCount (sym is) (each-at CanCount new place d (can_count-begun address old new begun can) within)
 
 -- one cycle at the head more, and some passages more
 pub within-head : (head : Option ℕ) (most : ℕ) (words : List WordCounts) → Each (IsWithin most) words →
@@ -239,3 +171,12 @@ room-fewer profile more fewer under room =
       capacity = omega (arith, room.capacity, under);
       counts = can_count-fewer profile.words more fewer under room.counts;
     }
+
+-- where some passages, or some of them, are counted after the first of all, there is room for the first
+pub room-first : (costs : LoadCosts) (rows rest : List Passage) (old new : Profiled) → 1 ≤ length rows →
+    length rest ≤ length (take (length rows - 1) (drop 1 rows)) → HasRoom old (length rows) →
+    new.words ≡ with_passages costs rest old.words → old.capacity ≤ new.capacity → HasRoom new 1
+room-first costs rows rest old new some few room words capacity =
+    let under : length rest + 1 ≤ length rows =
+    omega (arith, some, few, length-drop 1 rows, take-shorter (length rows - 1) (drop 1 rows)) in
+    room-passages costs rest old new 1 (room-fewer old (length rows) (length rest + 1) under room) words capacity

@@ -1,24 +1,10 @@
-use Rattle.std.proofs.Common.{◌+◌, ◌-◌, List, length, drop, take, filter, arith}
-use Rattle.std.proofs.lemmas.List.{length-drop}
-use Rattle.rv_passage.specs.declared.passage.Passage.{Passage}
 use Rattle.rv_counts.specs.Passing.{has_left}
-use Rattle.rv_counts.proofs.Rooms.{filter-le, room-fewer, room-passages, take-shorter}
+use Rattle.rv_counts.proofs.Rooms.{filter-le, room-first}
 use Rattle.rv_counts.proofs.profile.Profile.+add_left.Goals as goal
 
 pub add-requires : goal.add-requires
-add-requires t c =
-    let later : List Passage = take (length c.args.rows.now - 1) (drop 1 c.args.rows.now) in
-    let rest : List Passage = filter has_left later in
-    let few = filter-le has_left later in
-    let room = room-fewer c.args.self.now (length c.args.rows.now) (length rest + 1)
-    (omega (
-      arith,
-      c.in-len1-up.len_at_least,
-      length-drop 1 c.args.rows.now,
-      take-shorter (length c.args.rows.now - 1) (drop 1 c.args.rows.now),
-      few,
-    )) c.requires.room in
-    record {
-      room = room-passages c.args.self.now.costs rest c.args.self.now c.add_left.new.self 1 room
-          c.add_left.ensures.words c.add_left.ensures.capacity;
-    }
+add-requires t c = record {
+  room = room-first c.args.self.now.costs c.args.rows.now _ c.args.self.now c.add_left.new.self
+      c.in-len1-up.len_at_least (filter-le has_left _) c.requires.room
+      c.add_left.ensures.words c.add_left.ensures.capacity;
+}
