@@ -8,7 +8,6 @@ use Rattle.rv_causes.specs.Account.{Accounted, account_of, nothing_accounted, wi
 use Rattle.rv_causes.specs.Cause.{place_of}
 use Rattle.rv_causes.specs.Walk.{AreInTime}
 use Rattle.rv_causes.specs.declared.{cause.Cause.Cause, event.Event.Event}
-use Rattle.rv_causes.specs.declared.cause.Cause.TheVariants as cause
 
 -- the account of a path in two parts is that of the older part, and then of the newer one
 pub with_path-append : (xs ys : List Event) (account : Accounted) → with_path (xs ++ ys) account
@@ -22,41 +21,7 @@ account-append xs ys = with_path-append xs ys nothing_accounted
 
 -- each cause has a place
 place_within : (why : Cause) → place_of why < 35
-place_within cause.BeforeFirst = omega arith
-place_within cause.AfterLast = omega arith
-place_within cause.RefillPrediction = omega arith
-place_within cause.RefillTrap = omega arith
-place_within cause.RefillInterrupt = omega arith
-place_within cause.RefillSerialising = omega arith
-place_within cause.FetchWidth = omega arith
-place_within cause.FetchJump = omega arith
-place_within cause.FrontEnd = omega arith
-place_within cause.DispatchWidth = omega arith
-place_within cause.StoreQueueFull = omega arith
-place_within cause.DispatchToIssue = omega arith
-place_within cause.Operand = omega arith
-place_within cause.StoreAddress = omega arith
-place_within cause.AluBusy = omega arith
-place_within cause.MulBusy = omega arith
-place_within cause.DivBusy = omega arith
-place_within cause.MemBusy = omega arith
-place_within cause.PortStore = omega arith
-place_within cause.PortLoad = omega arith
-place_within cause.PortLines = omega arith
-place_within cause.AluExecution = omega arith
-place_within cause.MulExecution = omega arith
-place_within cause.DivExecution = omega arith
-place_within cause.MemExecution = omega arith
-place_within cause.LoadForwarded = omega arith
-place_within cause.LoadHit = omega arith
-place_within cause.LoadMiss = omega arith
-place_within cause.BusFull = omega arith
-place_within cause.Commit = omega arith
-place_within cause.CommitInOrder = omega arith
-place_within cause.CommitWidth = omega arith
-place_within cause.LinesWritten = omega arith
-place_within cause.UntilInterrupt = omega arith
-place_within cause.Other = omega arith
+place_within why = grind arith
 
 -- so many more at a place
 pub sum-set : (counts : List ℕ) (place more : ℕ) → place < length counts

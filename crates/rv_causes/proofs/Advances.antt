@@ -1,27 +1,22 @@
 -- What comes of the instructions of a cycle: their events are known ones or new.
-use Rattle.std.proofs.Common.{ℕ, zero, suc, ◌+◌, List, [], ◌∷◌, Option, Some, None, subst, sym}
-use Rattle.std.specs.Prelude.{IfSome, slice_get, ◌==◌, ◌&&◌, count_by}
+use Rattle.std.proofs.Common.{ℕ, zero, suc, ◌+◌, List, [], ◌∷◌, Option, Some, None, subst, sym, arith}
+use Rattle.std.specs.Prelude.{IfSome, slice_get, ◌==◌}
 use Rattle.std.specs.Option.{option_or}
-use Rattle.rv_isa.specs.Instruction.{kind_of_word}
-use Rattle.rv_isa.specs.PerKind.{at_kind}
 use Rattle.rv_isa.specs.declared.operations.Kind.{Kind}
 use Rattle.rv_passage.specs.Result.{issued_in}
 use Rattle.rv_passage.specs.declared.passage.Passage.{Passage}
 use Rattle.rv_causes.specs.Event.{Wait, again_by, waits, with_events}
-use Rattle.rv_causes.specs.Lookup.{Journey, first_of, journey_of, one_before}
-use Rattle.rv_causes.specs.Moving.{Move, advance_of, advanced, after_previous, dispatch_wait}
-use Rattle.rv_causes.specs.Moving.{fills_dispatch, issue_of, moved_at, moved_by, moved_up_to}
-use Rattle.rv_causes.specs.Moving.{new_advanced, new_at, new_at_one, new_up_to}
-use Rattle.rv_causes.specs.Moving.{room_by_drain, room_by_issue, room_by_leaving, room_for}
+use Rattle.rv_causes.specs.Lookup.{Journey, journey_of, one_before}
+use Rattle.rv_causes.specs.Moving.{Move, advance_of, advanced, after_previous, dispatch_wait, issue_of, moved_at}
+use Rattle.rv_causes.specs.Moving.{moved_by, moved_up_to, new_advanced, new_at, new_at_one, new_up_to, room_by_issue}
+use Rattle.rv_causes.specs.Moving.{room_for}
 use Rattle.rv_causes.specs.Setting.{Setting, made_of}
-use Rattle.rv_causes.specs.Sought.{is_at, is_just_before, is_sought}
+use Rattle.rv_causes.specs.Sought.{is_at}
 use Rattle.rv_causes.specs.Way.{with_stage}
 use Rattle.rv_causes.specs.Within.{AreHoldsOf, AreWaysOf, IsBeforeOf, IsWayOf}
 use Rattle.rv_causes.specs.declared.{cause.Cause.Cause, event.Event.Event, leaving.Leaving.Leaving}
 use Rattle.rv_causes.specs.declared.{point.Point.Point, point.Stage.Stage, way.Way.Way}
 use Rattle.rv_causes.specs.declared.cause.Cause.TheVariants as cause
-use Rattle.rv_causes.specs.declared.point.Stage.TheVariants as stage
-use Rattle.rv_causes.specs.declared.sought.Sought.TheVariants as sought
 use Rattle.rv_causes.proofs.EventLists.{J, OJ, first_have, get_have, if_with, journey_have}
 use Rattle.rv_causes.proofs.EventLists.{one_before_have, or_with, set_have, unwrap_with}
 use Rattle.rv_causes.proofs.EventLists.{before_implies, holds_imply, ways_imply}
@@ -40,31 +35,7 @@ again_have P (Some event) is = is
 -- an instruction that is found has an event at a stage
 pub stage_has : (P : Event → Type 0) (stage : Stage) (event : Event) (w : Way) → P event → IsWayOf P w
     → IsWayOf P (with_stage stage event w)
-stage_has P stage.Dispatch event w is are = record {
-  fetch = are.fetch;
-  dispatch = is;
-  issue = are.issue;
-  broadcast = are.broadcast;
-}
-stage_has P stage.Issue event w is are = record {
-  fetch = are.fetch;
-  dispatch = are.dispatch;
-  issue = is;
-  broadcast = are.broadcast;
-}
-stage_has P stage.Broadcast event w is are = record {
-  fetch = are.fetch;
-  dispatch = are.dispatch;
-  issue = are.issue;
-  broadcast = is;
-}
-stage_has P stage.Begin event w is are = are
-stage_has P stage.Fetch event w is are = are
-stage_has P stage.Commit event w is are = are
-stage_has P stage.Drain event w is are = are
-stage_has P stage.Lines event w is are = are
-stage_has P stage.Interrupt event w is are = are
-stage_has P stage.End event w is are = are
+stage_has P stage event w is are = grind arith
 
 module _ (s : Setting) (P : Event → Type 0) (holds : AreHoldsOf P s.holds) (before : IsBeforeOf P s.before)
     (ws : List Way) (ws-are : AreWaysOf P ws) (leaving : Leaving) (gone : AreLeavingOf P leaving) where
@@ -82,27 +53,13 @@ module _ (s : Setting) (P : Event → Type 0) (holds : AreHoldsOf P s.holds) (be
   issue_of_V (Some journey) is = issued_have P journey.way is
 
   room_by_issue_V : (o : Option Kind) → O (room_by_issue s ws o)
-  room_by_issue_V None = tt
-  room_by_issue_V (Some kind) =
-      let what = sought.IssuedIn kind s.number in
-      if_with O (count_by (is_sought (sought.Stationed kind s.number)) s.rows == (at_kind kind s.values.kinds).stations)
-      (issue_of_V (first_of what s.rows ws) (first_have P what s.rows ws ws-are)) tt
+  room_by_issue_V o = grind (arith, if_with, issue_of_V, first_have)
 
   room_for_V : (place : ℕ) (p : Passage) → O (room_for s ws leaving place p)
-  room_for_V place p =
-      let kind = kind_of_word p.instruction in
-      or_with V (room_by_leaving s leaving place) (option_or (room_by_issue s ws kind) (room_by_drain s))
-      (if_with O (place == s.values.rob) (again_have P leaving.first gone.first) tt)
-      (or_with V (room_by_issue s ws kind) (room_by_drain s) (room_by_issue_V kind)
-      (if_with O (s.before.facts.stores == s.values.store_queue)
-      (after_drain_V s P V waits_V holds before cause.StoreQueueFull) tt))
+  room_for_V place p = grind (arith, or_with, if_with, again_have, room_by_issue_V, after_drain_V, waits_V)
 
   after_previous_V : (place : ℕ) (o : Option Journey) → OJ P o → O (after_previous s place o)
-  after_previous_V place None is = tt
-  after_previous_V place (Some last) is =
-      let event = dispatched_have P last.way is in
-      if_with O (is_at s.number last.row.dispatched) event
-      (if_with O (is_just_before s.number last.row.dispatched && fills_dispatch s place) event tt)
+  after_previous_V place o is = grind (arith, dispatched_have, if_with)
 
   dispatch_wait_V : (p : Passage) (place : ℕ) (w : Way) → IsWayOf P w → V (dispatch_wait s ws leaving p place w)
   dispatch_wait_V p place w is =
@@ -134,13 +91,8 @@ pub record IsKnownBy (P : Event → Type 0) (s : Setting) (leaving : Leaving) (w
 pub known_by_implies : (P Q : Event → Type 0) → ((event : Event) → P event → Q event) →
     (s : Setting) (leaving : Leaving) (ws : List Way)
     → IsKnownBy P s leaving ws → IsKnownBy Q s leaving ws
-known_by_implies P Q implies s leaving ws is = record {
-  holds = holds_imply P Q implies s.holds is.holds;
-  before = before_implies P Q implies s.before is.before;
-  gone = leaving_implies P Q implies leaving is.gone;
-  new = leaving_implies (IsNew P s.elapsed) (IsNew Q s.elapsed) (new_implies P Q s.elapsed implies) leaving is.new;
-  ways = ways_imply P Q implies ws is.ways;
-}
+known_by_implies P Q implies s leaving ws is =
+    grind (arith, holds_imply, before_implies, leaving_implies, new_implies, ways_imply)
 
 module _ (s : Setting) (P : List Event → Event → Type 0) (kept : IsKept s.elapsed P) (leaving : Leaving) where
   abbrev K : List Event → List Way → Type 0

@@ -8,7 +8,6 @@ use Rattle.std.proofs.lemmas.List.Sums.{sum_by-cons}
 use Rattle.std.proofs.lemmas.Option.{none-some}
 use Rattle.rv_passage.specs.Passage.{is_in_flight, is_running}
 use Rattle.rv_passage.specs.declared.passage.{Ending.Ending, Passage.Passage}
-use Rattle.rv_passage.specs.declared.passage.Ending.TheVariants as ending
 use Rattle.rv_causes.specs.Keeping.{forgotten_in, one_more}
 use Rattle.rv_causes.specs.Leaving.{HasAllThatLeft, with_left, with_row, with_rows}
 use Rattle.rv_causes.specs.Setting.{Setting}
@@ -18,10 +17,7 @@ use Rattle.rv_causes.specs.declared.sought.Sought.TheVariants as sought
 use Rattle.rv_causes.proofs.Forgotten.{same-count}
 
 no-end : (e : Ending) → is_running e ≡ true → is_end e ≡ false
-no-end ending.InFlight runs = refl
-no-end (ending.Retired order cycle written next) runs = absurd cc
-no-end (ending.Trapped cycle cause) runs = absurd cc
-no-end (ending.Squashed cycle) runs = refl
+no-end e runs = grind arith
 
 -- of what is in flight nothing leaves
 open-rows : (s : Setting) (rows : List Passage) (ways : List Way) (leaving : Leaving) →
@@ -65,10 +61,7 @@ one-more p rows some has = record {
 }
 
 none-of : (rows : List Passage) → list_all is_in_flight rows ≡ true → HasAllThatLeft rows []
-none-of rows all = record {
-  leaving = λ s ways leaving. sym (open-rows s rows ways leaving all);
-  count = sym (open-count rows all);
-}
+none-of rows all = grind (arith, open-rows, open-count)
 
 next-has : (p : Passage) (ps : List Passage) (count : ℕ) (o : Option ℕ) →
     ((n : ℕ) → o ≡ Some n → HasAllThatLeft ps (take n ps))
@@ -98,7 +91,3 @@ all_left (p ∷ ps) count is = elim (cases_Bool (is_in_flight p)) [
       let more : one_more (forgotten_in ps) ≡ Some count = rw ended at is in
       next-has p ps count (forgotten_in ps) (λ n it. all_left ps n it) more
 ]
-
--- where it is not known how many left, all are looked at
-pub all_of : (rows : List Passage) → HasAllThatLeft rows rows
-all_of rows = record { leaving = λ s ways leaving. refl; count = refl }

@@ -1,6 +1,6 @@
 -- Events from the newest back, where the newest is the last.
-use Rattle.std.proofs.Common.{◌≡◌, ◌∙◌, ℕ, ◌+◌, ◌-◌, ◌<◌, ◌≤◌, List, [], ◌∷◌, ◌++◌, Option}
-use Rattle.std.proofs.Common.{None, length, get_or, drop, take, sym, ap, subst, arith}
+use Rattle.std.proofs.Common.{◌≡◌, ◌∙◌, ℕ, ◌+◌, ◌-◌, ◌<◌, ◌≤◌, List, [], ◌∷◌, ◌++◌, Option, None, length, get_or, drop}
+use Rattle.std.proofs.Common.{take, sym, ap, arith}
 use Rattle.std.specs.Prelude.{reverse}
 use Rattle.std.proofs.lemmas.List.{drop_more, reverse-append, take-append-drop, take_more}
 use Rattle.rv_causes.specs.Meeting.{IsAmong, passed}
@@ -55,20 +55,10 @@ module _ (events : List Event) (place : ℕ) (some : 0 < place) (within : place 
   pub meet-covers : (points left : List Point) (wanted : Option Point) → left ≡ passed event points
       → IsAmong (beyond (reverse (drop place events)) wanted) points
       → IsAmong (beyond (reverse (drop (place - 1) events)) wanted) left
-  meet-covers points left wanted left_is among =
-      let past_it : beyond (reverse (drop (place - 1) events)) wanted
-      ≡ beyond (event ∷ []) (beyond (reverse (drop place events)) wanted) =
-      ap (λ es. beyond es wanted) newer-last ∙ beyond-append (reverse (drop place events)) (event ∷ []) wanted in
-      subst (λ (w : Option Point). IsAmong w left) (sym past_it)
-      (subst (λ (ps : List Point). IsAmong (beyond (event ∷ []) (beyond (reverse (drop place events)) wanted)) ps)
-      (sym left_is)
-      (passed-covers event (beyond (reverse (drop place events)) wanted) points among))
+  meet-covers points left wanted left_is among = grind (arith, newer-last, beyond-append, passed-covers)
 
   -- one event further back, all points that are left come to the root through the older events
   pub meet-come : (points left : List Point) (root : Option Point) → left ≡ passed event points →
       AllComeTo root (reverse (take place events)) points
       → AllComeTo root (reverse (take (place - 1) events)) left
-  meet-come points left root left_is come =
-      subst (λ (ps : List Point). AllComeTo root (reverse (take (place - 1) events)) ps) (sym left_is)
-      (passed-come root (reverse (take (place - 1) events)) event points
-      (subst (λ (es : List Event). AllComeTo root es points) older-first come))
+  meet-come points left root left_is come = grind (arith, passed-come, older-first)

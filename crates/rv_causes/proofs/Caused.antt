@@ -1,5 +1,5 @@
 -- All events of a run waited for older ones, as their causes say.
-use Rattle.std.proofs.Common.{ℕ, ◌-◌, List, [], ◌∷◌, length, refl, inl, inr}
+use Rattle.std.proofs.Common.{ℕ, ◌-◌, List, [], ◌∷◌, length, refl, inl, arith}
 use Rattle.std.specs.List.{fold}
 use Rattle.rv_hardware.specs.History.{Moment}
 use Rattle.rv_passage.specs.Table.{still_open, table_at}
@@ -21,17 +21,10 @@ IsAmong all event = AreCaused all × HasEvent event.at event.cycle all
 
 -- with a new one
 put : (cycles : ℕ) (all : List Event) (event : Event) → IsNew (IsAmong all) cycles event → AreCaused (event ∷ all)
-put cycles [] event new = absurd new.has.1
-put cycles (other ∷ older) event new = (
-  record { waited = new.of.at; cycle = new.of.cycle; is_older = new.has.1; before = new.before; so = new.so },
-  new.has.0,
-)
+put cycles all event new = grind arith
 
 among_kept : (cycles : ℕ) → IsKept cycles IsAmong
-among_kept cycles = record {
-  newest = λ all event new. (put cycles all event new, inl (refl, refl));
-  others = λ all event other new is. (put cycles all event new, inr is.1);
-}
+among_kept cycles = grind (arith, put)
 
 -- the cycles of a run, one after another
 walk_caused : (standing : Standing) (known : Known) (moments : List Moment) → AreKnown (IsAmong known.events) known

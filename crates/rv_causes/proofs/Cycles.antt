@@ -1,33 +1,23 @@
 -- What holds of all that is known when a cycle begins, and is kept with each new event, holds of all that is known after it.
-use Rattle.std.proofs.Common.{◌≡◌, ◌∙◌, ℕ, ◌+◌, ◌-◌, List, [], ◌∷◌, ◌++◌, length}
-use Rattle.std.proofs.Common.{filter, Option, Some, None, ap, refl, subst, sym}
-use Rattle.std.specs.Prelude.{Bool, true, false, IfSome, slice_get, ◌==◌, ◌&&◌, nat_le, nat_lt, count_by, if◌then◌else◌}
+use Rattle.std.proofs.Common.{◌≡◌, ℕ, ◌+◌, ◌-◌, List, [], ◌∷◌, ◌++◌, length, arith, Option, Some, None, subst, sym}
+use Rattle.std.specs.Prelude.{Bool, true, false, IfSome, slice_get, ◌&&◌, if◌then◌else◌}
 use Rattle.std.specs.Option.{option_or}
-use Rattle.rv_hardware.specs.Broadcast.{mends_early}
 use Rattle.rv_hardware.specs.declared.step.Step.{Step}
-use Rattle.rv_isa.specs.Instruction.{kind_of_word}
-use Rattle.rv_isa.specs.PerKind.{at_kind}
 use Rattle.rv_isa.specs.declared.{issues.Issue.Issue, operations.Kind.Kind}
 use Rattle.rv_passage.specs.declared.passage.Passage.{Passage}
-use Rattle.rv_rob.specs.ReorderBuffer.{youngest}
 use Rattle.rv_rob.specs.declared.entry.Entry.{Entry}
 use Rattle.rv_causes.specs.Event.{Wait, waits, with_events}
-use Rattle.rv_causes.specs.Fetching.{after_flush, after_mend, after_redirection, after_room}
-use Rattle.rv_causes.specs.Fetching.{after_word, anew_by, fetch_event, fetch_wait}
-use Rattle.rv_causes.specs.Fetching.{fetched_by, fills_fetch, goes_on, is_jump}
-use Rattle.rv_causes.specs.Fetching.{is_mended, mend_of, new_fetched, room_of}
-use Rattle.rv_causes.specs.Holding.{drain_begun, drain_event, goes_beyond, hold_of, hold_of_kind, is_begun, is_taken}
-use Rattle.rv_causes.specs.Holding.{drain_kept, lines_hold, load_hold, new_holds}
+use Rattle.rv_causes.specs.Fetching.{after_redirection, after_room, after_word, anew_by, fetch_event, fetch_wait}
+use Rattle.rv_causes.specs.Fetching.{fetched_by, goes_on, mend_of, new_fetched, room_of}
+use Rattle.rv_causes.specs.Holding.{drain_event, hold_of, hold_of_kind, drain_kept, lines_hold, load_hold, new_holds}
 use Rattle.rv_causes.specs.Holding.{port_event, port_kept, port_taken, taken_event}
 use Rattle.rv_causes.specs.Leaving.{interrupt_event, is_interrupted, leaving_of}
 use Rattle.rv_causes.specs.Leaving.{left_by, left_events, lines_event, newly_left}
-use Rattle.rv_causes.specs.Lookup.{Journey, first_of, last_of, one_before}
+use Rattle.rv_causes.specs.Lookup.{Journey, one_before}
 use Rattle.rv_causes.specs.Moving.{all_moved, all_new}
 use Rattle.rv_causes.specs.Path.{interrupt_taken, known_by, known_in, ways_by}
 use Rattle.rv_causes.specs.Reading.{HardwareRead}
 use Rattle.rv_causes.specs.Setting.{Setting, last_left}
-use Rattle.rv_causes.specs.Sought.{is_at, is_sought}
-use Rattle.rv_causes.specs.Way.{way_from}
 use Rattle.rv_causes.specs.Within.{AreHoldsOf, AreKnown, AreWaysOf, IsBeforeOf, IsWayOf}
 use Rattle.rv_causes.specs.declared.{before.DrainHold.DrainHold, before.Facts.Facts}
 use Rattle.rv_causes.specs.declared.{before.Holder.Holder, before.Left.Left, before.PortHold.PortHold}
@@ -35,7 +25,6 @@ use Rattle.rv_causes.specs.declared.{event.Event.Event, leaving.Leaving.Leaving,
 use Rattle.rv_causes.specs.declared.before.Holder.TheVariants as holder
 use Rattle.rv_causes.specs.declared.cause.Cause.TheVariants as cause
 use Rattle.rv_causes.specs.declared.point.Stage.TheVariants as stage
-use Rattle.rv_causes.specs.declared.sought.Sought.TheVariants as sought
 use Rattle.rv_causes.proofs.Advances.{IsKnownBy, WaitsFor, known_by_implies, moved_up_to_K}
 use Rattle.rv_causes.proofs.EventLists.{J, OJ, append_have, first_have, get_have, holds_append}
 use Rattle.rv_causes.proofs.EventLists.{holds_filter, if_with, in_flight_have, last_have}
@@ -60,9 +49,7 @@ IsTakenBy P N hold = TakenBy P N hold.holder hold.event
 
 taken_events : (P N : Event → Type 0) (by : Holder) (event : Event) → TakenBy P N by event →
     AllOf N (taken_event by event)
-taken_events P N holder.Drain event is = (is, tt)
-taken_events P N holder.Load event is = tt
-taken_events P N holder.Lines event is = (is, tt)
+taken_events P N by event is = grind arith
 
 port_events : (P N : Event → Type 0) (o : Option PortHold) → IfSome o (IsTakenBy P N) → AllOf N (port_event o)
 port_events P N None is = tt
@@ -71,9 +58,7 @@ port_events P N (Some hold) is = taken_events P N hold.holder hold.event is
 taken_has : (P N Q : Event → Type 0) → ((event : Event) → P event → Q event) → (by : Holder) (event : Event) →
     TakenBy P N by event
     → AllOf Q (taken_event by event) → Q event
-taken_has P N Q implies holder.Drain event is are = are.0
-taken_has P N Q implies holder.Load event is are = implies event is
-taken_has P N Q implies holder.Lines event is are = are.0
+taken_has P N Q implies by event is are = grind arith
 
 port_has : (P N Q : Event → Type 0) → ((event : Event) → P event → Q event) → (o : Option PortHold) →
     IfSome o (IsTakenBy P N)
@@ -84,16 +69,11 @@ port_has P N Q implies (Some hold) is are = taken_has P N Q implies hold.holder 
 -- of those that go on
 port_kept_has : (Q : Event → Type 0) (number : ℕ) (o : Option PortHold) → IfSome o (λ hold. Q hold.event)
     → IfSome (port_kept number o) (λ hold. Q hold.event)
-port_kept_has Q number None is = tt
-port_kept_has Q number (Some hold) is =
-    if_with (λ (o : Option PortHold). IfSome o (λ (hold : PortHold). Q hold.event)) (nat_lt number hold.until) is tt
+port_kept_has Q number o is = grind (arith, if_with)
 
 drain_kept_has : (Q : Event → Type 0) (number : ℕ) (o : Option DrainHold) → IfSome o (λ drain. Q drain.event)
     → IfSome (drain_kept number o) (λ drain. Q drain.event)
-drain_kept_has Q number None is = tt
-drain_kept_has Q number (Some drain) is =
-    if_with (λ (o : Option DrainHold). IfSome o (λ (drain : DrainHold). Q drain.event))
-    (nat_le number drain.until) is tt
+drain_kept_has Q number o is = grind (arith, if_with)
 
 left_or : (Q : Event → Type 0) (new old : Option Left) → IfSome new (λ left. Q left.event) → Q (last_left old)
     → Q (last_left (option_or new old))
@@ -105,10 +85,7 @@ drain_has : (Q : Event → Type 0) (taken begun : Bool) (drain : DrainHold) (hol
     → hold.holder ≡ holder.Drain → hold.event ≡ drain.event
     → AllOf Q (port_event (if taken then (if begun then Some hold else other) else None))
     → IfSome (if taken && begun then Some drain else None) (λ d. Q d.event)
-drain_has Q true true drain hold other by same are =
-    subst Q same (subst (λ (h : Holder). AllOf Q (taken_event h hold.event)) by are).0
-drain_has Q true false drain hold other by same are = tt
-drain_has Q false begun drain hold other by same are = tt
+drain_has Q taken begun drain hold other by same are = grind arith
 
 -- how the fetch goes on, where all that is known has something
 module _ (s : Setting) (P : Event → Type 0) (ws : List Way) (leaving : Leaving) (known : IsKnownBy P s leaving ws) where
@@ -119,41 +96,24 @@ module _ (s : Setting) (P : Event → Type 0) (ws : List Way) (leaving : Leaving
   O waited = IfSome waited V
 
   anew_by_V : (why : Option Reason) (o : Option Event) → IfSome o P → O (anew_by why o)
-  anew_by_V None o is = tt
-  anew_by_V (Some why) None is = tt
-  anew_by_V (Some why) (Some event) is = is
+  anew_by_V why o is = grind arith
 
   mend_of_V : (entry : Option Entry) (o : Option Journey) → OJ P o → O (mend_of s entry o)
-  mend_of_V entry None is = tt
-  mend_of_V entry (Some journey) is =
-      if_with O (is_mended s journey.row entry) (broadcast_have P journey.way is) tt
+  mend_of_V entry o is = grind (arith, if_with, broadcast_have)
 
   after_redirection_V : (interrupted : Bool) (after : HardwareRead) (first : Passage) →
       AllOf P (interrupt_taken s interrupted)
       → O (after_redirection s ws interrupted leaving after first)
-  after_redirection_V true after first are = are.0
-  after_redirection_V false after first are =
-      or_with V (after_flush leaving) (after_mend s ws after) (anew_by_V leaving.refill leaving.last known.gone.last)
-      (if_with O (mends_early s.values.recovery)
-      (mend_of_V (youngest after.rob.entries) (last_of sought.Entry s.rows ws)
-      (last_have P sought.Entry s.rows ws known.ways)) tt)
+  after_redirection_V interrupted after first are = grind (arith, or_with, anew_by_V, if_with, mend_of_V, last_have)
 
   after_word_V : (last : Journey) → J P last → O (after_word s ws last)
-  after_word_V last is =
-      if_with O (last.row.fetched + 1 == s.number)
-      (if_with O (fills_fetch s ws) is.fetch
-      (if_with O (is_jump last.row) is.fetch tt)) tt
+  after_word_V last is = grind (arith, if_with)
 
   room_of_V : (p : Option Passage) (w : Option Way) → IfSome w (IsWayOf P) → O (room_of s p w)
-  room_of_V None w is = tt
-  room_of_V (Some p) None is = tt
-  room_of_V (Some p) (Some w) is = if_with O (is_at s.number p.dispatched) (dispatched_have P w is) tt
+  room_of_V p w is = grind (arith, if_with, dispatched_have)
 
   after_room_V : O (after_room s ws)
-  after_room_V =
-      let place = length ws - s.values.fetch_buffer in
-      if_with O (nat_le s.values.fetch_buffer (length ws))
-      (room_of_V (slice_get s.rows place) (slice_get ws place) (get_have P ws place known.ways)) tt
+  after_room_V = grind (arith, if_with, room_of_V, get_have)
 
   goes_on_V : (o : Option Journey) → OJ P o → V (goes_on s ws o)
   goes_on_V None is =
@@ -175,16 +135,12 @@ module _ (s : Setting) (P : Event → Type 0) (ws : List Way) (leaving : Leaving
 module _ (s : Setting) (P : Event → Type 0) where
   hold_of_kind_has : (p : Passage) (w : Way) (issue : Issue) (o : Option Kind) → IsWayOf P w
       → AreHoldsOf P (hold_of_kind s.values p w issue o)
-  hold_of_kind_has p w issue None is = tt
-  hold_of_kind_has p w issue (Some kind) is =
-      if_with (AreHoldsOf P) (at_kind kind s.values.kinds).pipelined tt (issued_have P w is, tt)
+  hold_of_kind_has p w issue o is = grind (arith, if_with, issued_have)
 
   hold_of_has : (p : Passage) (w : Way) (o : Option Issue) → IsWayOf P w →
       AreHoldsOf P (hold_of s.number s.values p w o)
   unfolding hold_of
-  hold_of_has p w None is = tt
-  hold_of_has p w (Some issue) is =
-      if_with (AreHoldsOf P) (issue.cycle == s.number) (hold_of_kind_has p w issue (kind_of_word p.instruction) is) tt
+  hold_of_has p w o is = grind (arith, if_with, hold_of_kind_has)
 
   pub new_holds_have : (ps : List Passage) (ws : List Way) → AreWaysOf P ws →
       AreHoldsOf P (new_holds s.number s.values ps ws)
@@ -210,16 +166,7 @@ module _ (s : Setting) (P : Event → Type 0) where
       → ((p : Passage) (w : Way) → IsWayOf P w → N (lines_event s leaving p w)) →
       IfSome (port_taken s ws leaving facts) (IsTakenBy P N)
   port_taken_has N ws leaving facts are drain lines =
-      let until = facts.port_free in
-      let what = sought.LoadUntil s.number until in
-      let load = first_of what s.rows ws in
-      let head = first_of sought.FenceI s.rows ws in
-      let T = IsTakenBy P N in
-      if_with (λ (o : Option PortHold). IfSome o T) (is_taken s facts)
-      (if_with (λ (o : Option PortHold). IfSome o T) (is_begun s facts.drain_end) drain
-      (or_with T (load_hold until load) (lines_hold s leaving until head)
-      (load_hold_has N until load (first_have P what s.rows ws are))
-      (lines_hold_has N leaving until head lines (first_have P sought.FenceI s.rows ws are)))) tt
+      grind (arith, if_with, or_with, load_hold_has, first_have, lines_hold_has)
 
 module _ (s : Setting) (P : List Event → Event → Type 0) (kept : IsKept s.elapsed P) where
   -- that of what left, and of the words that were fetched
@@ -232,9 +179,7 @@ module _ (s : Setting) (P : List Event → Event → Type 0) (kept : IsKept s.el
       AllOf Q (interrupt_taken s interrupted)
       → AreLeavingOf Q leaving
       → IfSome (newly_left s interrupted leaving) (λ left. Q left.event)
-  newly_left_has Q true leaving are gone = are.0
-  newly_left_has Q false leaving are gone = left_by_has Q (count_by (is_sought sought.Ended) s.rows)
-      leaving.last gone.last
+  newly_left_has Q interrupted leaving are gone = grind (arith, left_by_has)
 
   interrupts_new : (Q : Event → Type 0) (interrupted : Bool) → Q (interrupt_event s) →
       AllOf Q (interrupt_taken s interrupted)
@@ -242,9 +187,7 @@ module _ (s : Setting) (P : List Event → Event → Type 0) (kept : IsKept s.el
   interrupts_new Q false is = tt
 
   fetched_have : (Q : Event → Type 0) (o : Option Event) (count : ℕ) → IfSome o Q → AreWaysOf Q (ways_by o count)
-  fetched_have Q None count is = tt
-  fetched_have Q (Some event) count is =
-      replicate_have Q count (way_from event) (record { fetch = is; dispatch = tt; issue = tt; broadcast = tt })
+  fetched_have Q o count is = grind (arith, replicate_have)
 
   -- the words that are fetched, and all that is known before them
   module _ (all : List Event) (ws : List Way) (leaving : Leaving) (interrupted : Bool) (after : HardwareRead)
@@ -256,10 +199,7 @@ module _ (s : Setting) (P : List Event → Event → Type 0) (kept : IsKept s.el
     pub fetch_has : (o : Option Passage)
         → IfSome (fetched_by s ws interrupted leaving after o)
         (P (with_events (new_fetched s ws interrupted leaving after o) all))
-    fetch_has None = tt
-    fetch_has (Some first) =
-        wait_has s.elapsed P kept all s.refilled (record { stage = stage.Fetch; number = first.number }) (Some first.pc)
-        (fetch_wait s ws interrupted leaving after first) (fetched_waits first)
+    fetch_has o = grind (arith, wait_has, fetched_waits)
 
     pub fetch_still : (o : Option Passage) (event : Event) → P all event
         → P (with_events (new_fetched s ws interrupted leaving after o) all) event
@@ -277,50 +217,27 @@ module _ (s : Setting) (P : List Event → Event → Type 0) (kept : IsKept s.el
       → AllOf Q (port_event (port_taken s now leaving after.facts))
       → IfSome (port_taken s now leaving after.facts) (λ hold. Q hold.event)
       → (old : List Way) (all : List Event) → AreKnown Q (known_by s old now all steps after leaving)
-  known_next Q now steps after leaving known fetch interrupts ports port old all =
-      let interrupted = is_interrupted steps in
-      let facts = after.facts in
-      let event = fetch_event s now interrupted leaving after in
-      let count = length s.rows - length now in
-      let hold : PortHold = record {
-        until = facts.port_free;
-        event = drain_event s leaving;
-        holder = holder.Drain;
-        number = 0;
-      } in
-      let drain : DrainHold = record { until = facts.port_free; event = drain_event s leaving } in
-      let load = load_hold facts.port_free (first_of (sought.LoadUntil s.number facts.port_free) s.rows now) in
-      let lines = lines_hold s leaving facts.port_free (first_of sought.FenceI s.rows now) in
-      record {
-        ways = in_flight_have Q s.rows (now ++ ways_by event count)
-            (append_have Q now (ways_by event count) known.ways (fetched_have Q event count fetch));
-        holds = holds_append Q (filter (goes_beyond s.number) s.holds) (new_holds s.number s.values s.rows now)
-            (holds_filter Q (goes_beyond s.number) s.holds known.holds) (new_holds_have s Q s.rows now known.ways);
-        before = record {
-          left = left_or Q (newly_left s interrupted leaving) s.before.left
-              (newly_left_has Q interrupted leaving interrupts known.gone) known.before.left;
-          port = or_with (λ (hold : PortHold). Q hold.event) (port_taken s now leaving facts)
-              (port_kept s.number s.before.port)
-              port (port_kept_has Q s.number s.before.port known.before.port);
-          drain = or_with (λ (drain : DrainHold). Q drain.event) (drain_begun s leaving facts)
-              (drain_kept s.number s.before.drain)
-              (drain_has Q (is_taken s facts) (is_begun s facts.drain_end) drain hold
-              (option_or load lines) refl refl ports)
-              (drain_kept_has Q s.number s.before.drain known.before.drain);
-        };
-      }
+  known_next Q now steps after leaving known fetch interrupts ports port old all = grind (
+    arith,
+    in_flight_have,
+    append_have,
+    fetched_have,
+    holds_append,
+    holds_filter,
+    new_holds_have,
+    left_or,
+    newly_left_has,
+    or_with,
+    port_kept_has,
+    drain_has,
+    drain_kept_has,
+  )
 
   -- those of the cycle one after another
   in_turn : (left moves interrupts ports fetches all : List Event)
       → with_events (left ++ (moves ++ (interrupts ++ (ports ++ fetches)))) all
       ≡ with_events fetches (with_events (interrupts ++ ports) (with_events moves (with_events left all)))
-  in_turn left moves interrupts ports fetches all =
-      let beside = with_events moves (with_events left all) in
-      with_both left (moves ++ (interrupts ++ (ports ++ fetches))) all
-      ∙ with_both moves (interrupts ++ (ports ++ fetches)) (with_events left all)
-      ∙ with_both interrupts (ports ++ fetches) beside
-      ∙ with_both ports fetches (with_events interrupts beside)
-      ∙ ap (with_events fetches) (sym (with_both interrupts ports beside))
+  in_turn left moves interrupts ports fetches all = grind (arith, with_both)
 
   -- those that leave, and what is known with them
   left_known : (all : List Event) (old : List Way) → AreHoldsOf (P all) s.holds → IsBeforeOf (P all) s.before

@@ -1,17 +1,15 @@
 -- What holds of each event of lists, and of what is found among them.
-use Rattle.std.proofs.Common.{ℕ, zero, suc, List, [], ◌∷◌, ◌++◌, filter, replicate, Option, Some, None}
-use Rattle.std.specs.Prelude.{Bool, true, false, if◌then◌else◌, IfSome, ◌-◌, ◌==◌, slice_get, slice_set}
+use Rattle.std.proofs.Common.{ℕ, zero, suc, List, [], ◌∷◌, ◌++◌, filter, replicate, Option, Some, None, arith}
+use Rattle.std.specs.Prelude.{Bool, true, false, if◌then◌else◌, IfSome, ◌-◌, slice_get, slice_set}
 use Rattle.std.specs.Option.{option_or, unwrap_or}
 use Rattle.rv_passage.specs.Passage.{is_in_flight}
 use Rattle.rv_passage.specs.declared.passage.{Passage.Passage}
 use Rattle.rv_causes.specs.Lookup.{Journey, first_of, journey_of, last_of, one_before, sought_of}
 use Rattle.rv_causes.specs.Path.{Known, still_in_flight, way_if}
-use Rattle.rv_causes.specs.Setting.{last_left}
 use Rattle.rv_causes.specs.Sought.{is_sought}
 use Rattle.rv_causes.specs.Within.{AreHoldsOf, AreKnown, AreWaysOf, IsBeforeOf, IsWayOf}
-use Rattle.rv_causes.specs.declared.{before.Before.Before, before.DrainHold.DrainHold}
-use Rattle.rv_causes.specs.declared.{before.PortHold.PortHold, before.UnitHold.UnitHold}
-use Rattle.rv_causes.specs.declared.{event.Event.Event, sought.Sought.Sought, way.Way.Way}
+use Rattle.rv_causes.specs.declared.{before.Before.Before, before.UnitHold.UnitHold, event.Event.Event}
+use Rattle.rv_causes.specs.declared.{sought.Sought.Sought, way.Way.Way}
 
 -- of the events of an instruction that is found, if one is
 abbrev pub J : (Event → Type 0) → Journey → Type 0
@@ -101,16 +99,12 @@ holds_filter P test (h ∷ hs) within =
 -- the one before a place is among them
 pub journey_have : (P : Event → Type 0) (p : Option Passage) (w : Option Way) → IfSome w (IsWayOf P) →
     IfSome (journey_of p w) (J P)
-journey_have P None w within = tt
-journey_have P (Some p) None within = tt
-journey_have P (Some p) (Some w) within = within
+journey_have P p w within = grind arith
 
 -- it holds of the one that stands one before a place
 pub one_before_have : (P : Event → Type 0) (place : ℕ) (ps : List Passage) (ws : List Way) → AreWaysOf P ws
     → IfSome (one_before place ps ws) (J P)
-one_before_have P place ps ws within =
-    if_with (OJ P) (place == 0) tt
-    (journey_have P (slice_get ps (place - 1)) (slice_get ws (place - 1)) (get_have P ws (place - 1) within))
+one_before_have P place ps ws within = grind (arith, if_with, journey_have, get_have)
 
 -- and where one is put in another's place, all still are
 pub set_have : (P : Event → Type 0) (ws : List Way) (place : ℕ) (w : Way) → AreWaysOf P ws → IsWayOf P w
@@ -126,12 +120,7 @@ module _ (P Q : Event → Type 0) (implies : (event : Event) → P event → Q e
   some_imply at (Some x) is = implies (at x) is
 
   way_implies : (w : Way) → IsWayOf P w → IsWayOf Q w
-  way_implies w is = record {
-    fetch = implies w.fetch is.fetch;
-    dispatch = some_imply (λ (e : Event). e) w.dispatch is.dispatch;
-    issue = some_imply (λ (e : Event). e) w.issue is.issue;
-    broadcast = some_imply (λ (e : Event). e) w.broadcast is.broadcast;
-  }
+  way_implies w is = grind (arith, implies, some_imply)
 
   -- what implies another property of an event implies it of the events of ways
   pub ways_imply : (ws : List Way) → AreWaysOf P ws → AreWaysOf Q ws
@@ -145,16 +134,8 @@ module _ (P Q : Event → Type 0) (implies : (event : Event) → P event → Q e
 
   -- of those of the cycle before
   pub before_implies : (before : Before) → IsBeforeOf P before → IsBeforeOf Q before
-  before_implies before is = record {
-    left = implies (last_left before.left) is.left;
-    port = some_imply (λ (h : PortHold). h.event) before.port is.port;
-    drain = some_imply (λ (d : DrainHold). d.event) before.drain is.drain;
-  }
+  before_implies before is = grind (arith, implies, some_imply)
 
   -- and of all that are known
   pub known_implies : (known : Known) → AreKnown P known → AreKnown Q known
-  known_implies known are = record {
-    ways = ways_imply known.ways are.ways;
-    holds = holds_imply known.holds are.holds;
-    before = before_implies known.before are.before;
-  }
+  known_implies known are = grind (arith, ways_imply, holds_imply, before_implies)

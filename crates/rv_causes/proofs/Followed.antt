@@ -1,5 +1,5 @@
 -- A path that follows a run: no cycle yet, room for one more, and one cycle more.
-use Rattle.std.proofs.Common.{◌≡◌, ◌∙◌, List, [], ◌∷◌, Some, drop, length, replicate, ap, subst, sym}
+use Rattle.std.proofs.Common.{◌≡◌, ◌∙◌, List, [], ◌∷◌, Some, drop, length, replicate, subst, sym, arith}
 use Rattle.rv_hardware.specs.Hardware.{Hardware}
 use Rattle.rv_passage.specs.Table.{table_at}
 use Rattle.rv_passage.specs.declared.passage.Passage.{Passage}
@@ -26,21 +26,7 @@ pub pathing_nothing : (first : Hardware) (path : Path) (rows : List Passage) →
     → drop path.dropped path.ways.items ≡ replicate (length rows) (way_from nothing_yet) → path.holds.items ≡ []
     → path.before ≡ (known_at first).before → IsWindow path.window (nothing_yet ∷ []) → PassesIn path nothing_yet
     → IsKnown path (known_at first)
-pathing_nothing first path rows rows_are ways holds before window passes = record {
-  known = λ i. record {
-    ways = (ways ∙ ap (λ (ps : List Passage). replicate (length ps) (way_from nothing_yet)) rows_are) i;
-    holds = holds i;
-    before = before i;
-    events = nothing_yet ∷ [];
-  };
-  window = window;
-  passes = record {
-    ways = replicate_have (PassesIn path) (length (table_at first).rows) (way_from nothing_yet)
-        (record { fetch = passes; dispatch = tt; issue = tt; broadcast = tt });
-    holds = tt;
-    before = record { left = passes; port = tt; drain = tt };
-  };
-}
+pathing_nothing first path rows rows_are ways holds before window passes = grind (arith, replicate_have)
 
 -- room for one more
 pub pathing_still : (path path' : Path) (k : Known) →

@@ -1,7 +1,6 @@
 -- Where the instructions that left are older than the others, the events of the others are what comes after so many.
-use Rattle.std.proofs.Common.{◌≡◌, ◌∙◌, ℕ, suc, ◌+◌, ◌≤◌, true, false, List, [], ◌∷◌}
-use Rattle.std.proofs.Common.{◌++◌, length, drop, Option, None, Some, refl, ap, sym}
-use Rattle.std.proofs.Common.{arith, inl, inr}
+use Rattle.std.proofs.Common.{◌≡◌, ◌∙◌, ℕ, ◌+◌, ◌≤◌, true, false, List, [], ◌∷◌, ◌++◌, length, drop, Option, None, Some}
+use Rattle.std.proofs.Common.{refl, ap, sym, arith, inl, inr}
 use Rattle.std.specs.Prelude.{Bool, if◌then◌else◌, IfSome}
 use Rattle.std.specs.List.{list_all}
 use Rattle.std.specs.Option.{unwrap_or}
@@ -39,18 +38,12 @@ open-all (p ∷ ps) (w ∷ ws) all long = elim (cases_Bool (is_in_flight p)) [
 none-forgotten : (ps : List Passage) (w : Way) (ws : List Way) (count : ℕ) (all : Bool) →
     (all ≡ true → still_in_flight ps ws ≡ ws)
     → (if all then Some 0 else None) ≡ Some count → w ∷ still_in_flight ps ws ≡ drop count (w ∷ ws)
-none-forgotten ps w ws count true others is = ap (λ l. w ∷ l) (others refl)
-    ∙ ap (λ n. drop n (w ∷ ws)) (same-count 0 count is)
-none-forgotten ps w ws count false others is = absurd (none-some count is)
+none-forgotten ps w ws count all others is = grind (arith, same-count, none-some)
 
 more-forgotten : (ps : List Passage) (w : Way) (ws : List Way) (count : ℕ) (o : Option ℕ)
     → ((n : ℕ) → o ≡ Some n → still_in_flight ps ws ≡ drop n ws) → one_more o ≡ Some count →
     still_in_flight ps ws ≡ drop count (w ∷ ws)
-more-forgotten ps w ws count None others is = absurd (none-some count is)
-more-forgotten ps w ws count (Some n) others is =
-    let one : 1 + n ≡ count = same-count (1 + n) count is in
-    let next : suc n ≡ count = omega (arith, one) in
-    others n refl ∙ ap (λ k. drop k (w ∷ ws)) next
+more-forgotten ps w ws count o others is = grind (arith, none-some, same-count)
 
 pub forgotten : (rows : List Passage) (ways : List Way) (count : ℕ) → forgotten_in rows ≡ Some count →
     length ways ≡ length rows
@@ -93,9 +86,4 @@ forgotten-few (p ∷ ps) count is = elim (cases_Bool (is_in_flight p)) [
 pub are_forgotten : (rows : List Passage) (ways : List Way) (ended : Option ℕ) → ended ≡ forgotten_in rows →
     length ways ≡ length rows
     → IfSome ended (AreForgotten rows ways)
-are_forgotten rows ways None is long = tt
-are_forgotten rows ways (Some count) is long =
-    record {
-      few = omega (arith, long, forgotten-few rows count (sym is));
-      others = forgotten rows ways count (sym is) long;
-    }
+are_forgotten rows ways ended is long = grind (arith, forgotten-few, forgotten)

@@ -1,13 +1,12 @@
 -- The events of those that leave the hardware in a cycle are new, and so are that of an interrupt and those from which
 -- the port is taken.
-use Rattle.std.proofs.Common.{ℕ, List, [], ◌∷◌, ◌++◌, Option, Some, None}
+use Rattle.std.proofs.Common.{ℕ, List, [], ◌∷◌, Option, Some, None, arith}
 use Rattle.std.specs.Prelude.{IfSome}
-use Rattle.std.specs.Option.{option_or, option_to_list}
+use Rattle.std.specs.Option.{option_or}
 use Rattle.rv_passage.specs.declared.passage.Passage.{Passage}
 use Rattle.rv_causes.specs.Event.{Wait, again_by, waits}
 use Rattle.rv_causes.specs.Holding.{at_its_commit, drain_event}
-use Rattle.rv_causes.specs.Leaving.{first_to_leave, interrupt_event, is_retired_store}
-use Rattle.rv_causes.specs.Leaving.{known_in, leaves_after, leaving_event, leaving_of}
+use Rattle.rv_causes.specs.Leaving.{first_to_leave, interrupt_event, known_in, leaves_after, leaving_event, leaving_of}
 use Rattle.rv_causes.specs.Leaving.{left_events, lines_after, lines_event, none_left, with_event, with_row, with_rows}
 use Rattle.rv_causes.specs.Setting.{Setting, after_port, after_stores, last_left, made, made_of}
 use Rattle.rv_causes.specs.Sought.{is_end, is_just_before}
@@ -31,24 +30,11 @@ pub record AreLeavingOf (Q : Event → Type 0) (leaving : Leaving) : Type 0 wher
 
 -- what holds of all that a cycle's leaving brought holds of the list of its events
 pub left_events_have : (Q : Event → Type 0) (leaving : Leaving) → AreLeavingOf Q leaving → AllOf Q (left_events leaving)
-left_events_have Q leaving are =
-    all_both Q (option_to_list leaving.first) (option_to_list leaving.store ++ option_to_list leaving.last)
-    (all_some Q leaving.first are.first)
-    (all_both Q (option_to_list leaving.store) (option_to_list leaving.last) (all_some Q leaving.store are.store)
-    (all_some Q leaving.last are.last))
+left_events_have Q leaving are = grind (arith, all_both, all_some)
 
 -- and what holds of the list of its events holds of all that it brought
 pub left_events_are : (Q : Event → Type 0) (leaving : Leaving) → AllOf Q (left_events leaving) → AreLeavingOf Q leaving
-left_events_are Q leaving are =
-    let first = option_to_list leaving.first in
-    let store = option_to_list leaving.store in
-    let last = option_to_list leaving.last in
-    let others = all_back Q first (store ++ last) are in
-    record {
-      first = some_all Q leaving.first (all_front Q first (store ++ last) are);
-      store = some_all Q leaving.store (all_front Q store last others);
-      last = some_all Q leaving.last (all_back Q store last others);
-    }
+left_events_are Q leaving are = grind (arith, all_back, some_all, all_front)
 
 -- what implies another property of an event implies it of those of a leaving
 pub leaving_implies : (P Q : Event → Type 0) → ((event : Event) → P event → Q event) → (leaving : Leaving) →
@@ -92,12 +78,7 @@ module _ (s : Setting) (P : Event → Type 0) (holds : AreHoldsOf P s.holds) (be
 
   with_event_N : (event : Event) (p : Passage) (leaving : Leaving) → N event → AreLeavingOf N leaving
       → AreLeavingOf N (with_event s event p leaving)
-  with_event_N event p leaving is are = record {
-    first = or_with N leaving.first (Some event) are.first is;
-    last = is;
-    store = if_with (λ (o : Option Event). IfSome o N) (is_retired_store p)
-        (or_with N leaving.store (Some event) are.store is) are.store;
-  }
+  with_event_N event p leaving is are = grind (arith, or_with, if_with)
 
   with_row_N : (p : Passage) (w : Way) (leaving : Leaving) → IsWayOf P w → AreLeavingOf N leaving →
       AreLeavingOf N (with_row s p w leaving)

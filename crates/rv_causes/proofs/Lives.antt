@@ -1,5 +1,5 @@
 -- The paths to all for which an event may wait come to a root: all of their points do.
-use Rattle.std.proofs.Common.{List, [], ◌∷◌, ◌++◌, Option, Some, None}
+use Rattle.std.proofs.Common.{List, [], ◌∷◌, ◌++◌, Option, Some, None, arith}
 use Rattle.std.specs.Prelude.{IfSome}
 use Rattle.rv_causes.specs.Live.{before_points, drain_points, holds_points, live_points}
 use Rattle.rv_causes.specs.Live.{point_of, port_points, way_points, ways_points}
@@ -39,22 +39,10 @@ module _ (root : Option Point) (all : List Event) where
   point_out (Some event) are = are.0
 
   way_in : (w : Way) → IsWayOf L w → A (way_points w)
-  way_in w is = (
-    is.fetch,
-    both (point_of w.dispatch) (point_of w.issue ++ point_of w.broadcast) (point_in w.dispatch is.dispatch)
-        (both (point_of w.issue) (point_of w.broadcast) (point_in w.issue is.issue)
-        (point_in w.broadcast is.broadcast)),
-  )
+  way_in w is = grind (arith, both, point_in)
 
   way_out : (w : Way) → A (way_points w) → IsWayOf L w
-  way_out w are =
-      let later = back (point_of w.dispatch) (point_of w.issue ++ point_of w.broadcast) are.1 in
-      record {
-        fetch = are.0;
-        dispatch = point_out w.dispatch (front (point_of w.dispatch) (point_of w.issue ++ point_of w.broadcast) are.1);
-        issue = point_out w.issue (front (point_of w.issue) (point_of w.broadcast) later);
-        broadcast = point_out w.broadcast (back (point_of w.issue) (point_of w.broadcast) later);
-      }
+  way_out w are = grind (arith, back, point_out, front)
 
   ways_in : (ws : List Way) → AreWaysOf L ws → A (ways_points ws)
   ways_in [] are = tt
@@ -90,34 +78,15 @@ module _ (root : Option Point) (all : List Event) where
   drain_out (Some drain) are = are.0
 
   before_in : (before : Before) → IsBeforeOf L before → A (before_points before)
-  before_in before is = (
-    is.left,
-    both (port_points before.port) (drain_points before.drain) (port_in before.port is.port)
-        (drain_in before.drain is.drain),
-  )
+  before_in before is = grind (arith, both, port_in, drain_in)
 
   before_out : (before : Before) → A (before_points before) → IsBeforeOf L before
-  before_out before are = record {
-    left = are.0;
-    port = port_out before.port (front (port_points before.port) (drain_points before.drain) are.1);
-    drain = drain_out before.drain (back (port_points before.port) (drain_points before.drain) are.1);
-  }
+  before_out before are = grind (arith, port_out, front, drain_out, back)
 
   -- where all that is known leads to the root, all points that are live do
   pub live_in : (known : Known) → AreKnown L known → A (live_points known.ways known.holds known.before)
-  live_in known are =
-      both (before_points known.before) (holds_points known.holds ++ ways_points known.ways)
-      (before_in known.before are.before)
-      (both (holds_points known.holds) (ways_points known.ways) (holds_in known.holds are.holds)
-      (ways_in known.ways are.ways))
+  live_in known are = grind (arith, both, before_in, holds_in, ways_in)
 
   -- and where all points that are live lead to it, all that is known does
   pub live_out : (known : Known) → A (live_points known.ways known.holds known.before) → AreKnown L known
-  live_out known are =
-      let later = back (before_points known.before) (holds_points known.holds ++ ways_points known.ways) are in
-      record {
-        ways = ways_out known.ways (back (holds_points known.holds) (ways_points known.ways) later);
-        holds = holds_out known.holds (front (holds_points known.holds) (ways_points known.ways) later);
-        before = before_out known.before
-            (front (before_points known.before) (holds_points known.holds ++ ways_points known.ways) are);
-      }
+  live_out known are = grind (arith, back, ways_out, holds_out, front, before_out)

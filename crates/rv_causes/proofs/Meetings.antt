@@ -57,16 +57,12 @@ any-has event point (x ∷ xs) same (inr later) = or-true (is_point event.at x) 
 by_found : (found : Bool) (event : Event) (point : Point) (points : List Point) → is_point event.at point ≡ false →
     HasPoint point points
     → HasPoint point (if found then with_before event.before (others event points) else points)
-by_found true event point points other has =
-    has-left point (others event points) (option_to_list event.before) (has-others event point points other has)
-by_found false event point points other has = has
+by_found found event point points other has = grind (arith, has-left, has-others)
 
 by_test : (here : Bool) (event : Event) (point : Point) (points : List Point) → is_point event.at point ≡ here →
     HasPoint point points
     → IsAmong (if here then event.before else Some point) (passed event points)
-by_test true event point points same has =
-    rw (any-has event point points same has) (among-before event.before (others event points))
-by_test false event point points other has = by_found (list_any (is_point event.at) points) event point points other has
+by_test here event point points same has = grind (arith, any-has, among-before, by_found)
 
 -- past an event, what was among the points wanted is among those that are left
 pub passed-covers : (event : Event) (wanted : Option Point) (points : List Point) → IsAmong wanted points
@@ -132,10 +128,8 @@ none-come root older event (x ∷ xs) none come =
 come-by : (found : Bool) (root : Option Point) (older : List Event) (event : Event) (points : List Point)
     → list_any (is_point event.at) points ≡ found → AllComeTo root (event ∷ older) points
     → AllComeTo root older (if found then with_before event.before (others event points) else points)
-come-by true root older event points is come =
-    all-both root older (others event points) (option_to_list event.before) (others-come root older event points come)
-    (before-all root older event.before (before-comes root older event points is come))
-come-by false root older event points is come = none-come root older event points is come
+come-by found root older event points is come =
+    grind (arith, all-both, others-come, before-all, before-comes, none-come)
 
 -- past an event, the points that are left come to the root through the older events
 pub passed-come : (root : Option Point) (older : List Event) (event : Event) (points : List Point) →

@@ -1,18 +1,14 @@
 -- What is new of an event that waited, and an instruction of which nothing comes in a cycle.
-use Rattle.std.proofs.Common.{◌≡◌, ◌∙◌, ℕ, true, false, List, [], Option, None, Some, get_or, refl, ap, sym}
-use Rattle.std.specs.Prelude.{Bool, if◌then◌else◌, ◌||◌, is_some, option_map, slice_get}
+use Rattle.std.proofs.Common.{◌≡◌, ◌∙◌, ℕ, false, List, [], Option, None, Some, get_or, refl, ap, sym, arith}
+use Rattle.std.specs.Prelude.{Bool, if◌then◌else◌, ◌||◌, is_some, slice_get}
 use Rattle.std.proofs.lemmas.Option.{get_or_from_slice_get, none-some}
-use Rattle.rv_passage.specs.Result.{issued_in}
 use Rattle.rv_passage.specs.declared.passage.Passage.{Passage}
 use Rattle.rv_causes.specs.Event.{Wait, event_by, event_from, event_if, new_by, new_from}
-use Rattle.rv_causes.specs.Issuing.{broadcast_wait, issue_wait}
 use Rattle.rv_causes.specs.Lookup.{Journey, journey_of, one_at}
-use Rattle.rv_causes.specs.Moving.{Move, advance_of, advanced, advances, advances_at, advances_by, dispatch_wait}
-use Rattle.rv_causes.specs.Moving.{moved_at, moved_by, new_advanced, new_at, new_at_one}
+use Rattle.rv_causes.specs.Moving.{Move, advance_of, advanced, advances, advances_at, advances_by, moved_at, moved_by}
+use Rattle.rv_causes.specs.Moving.{new_advanced, new_at, new_at_one}
 use Rattle.rv_causes.specs.Setting.{Setting}
-use Rattle.rv_causes.specs.Sought.{is_at}
 use Rattle.rv_causes.specs.declared.{cause.Cause.Cause, leaving.Leaving.Leaving, point.Point.Point, way.Way.Way}
-use Rattle.rv_causes.specs.declared.point.Stage.TheVariants as stage
 
 new-by : (refilled : Bool) (at : Point) (cycle : ℕ) (address : Option ℕ) (waited : Wait) (why : Option Cause)
     → event_if (is_some why) (event_by refilled at cycle address waited why)
@@ -28,33 +24,20 @@ new_if refilled at cycle address waited = new-by refilled at cycle address waite
 
 none-by : (dispatched issued broadcast : Bool) (x y z : Move) → (dispatched || (issued || broadcast)) ≡ false
     → (if dispatched then Some x else (if issued then Some y else (if broadcast then Some z else None))) ≡ None
-none-by true issued broadcast x y z idle = absurd cc
-none-by false true broadcast x y z idle = absurd cc
-none-by false false true x y z idle = absurd cc
-none-by false false false x y z idle = refl
+none-by dispatched issued broadcast x y z idle = grind arith
 
 idle-none : (s : Setting) (leaving : Leaving) (place : ℕ) (ways : List Way) (p : Passage) (w : Way) →
     advances s.number p ≡ false
     → advance_of s leaving ways place p w ≡ None
-idle-none s leaving place ways p w idle =
-    none-by (is_at s.number p.dispatched) (is_at s.number (issued_in p)) (is_at s.number p.broadcast)
-    (record { stage = stage.Dispatch; waited = dispatch_wait s ways leaving p place w })
-    (record { stage = stage.Issue; waited = issue_wait s ways p w })
-    (record { stage = stage.Broadcast; waited = broadcast_wait s ways p w }) idle
+idle-none s leaving place ways p w idle = grind (arith, none-by)
 
 moved-idle : (s : Setting) (leaving : Leaving) (place : ℕ) (ways : List Way) (row : Option Passage) (way : Option Way)
     → advances_by s.number row ≡ false → moved_by s leaving place (journey_of row way) ways ≡ ways
-moved-idle s leaving place ways None way idle = refl
-moved-idle s leaving place ways (Some p) None idle = refl
-moved-idle s leaving place ways (Some p) (Some w) idle =
-    ap (λ (o : Option Move). advanced s place (record { row = p; way = w }) o ways)
-    (idle-none s leaving place ways p w idle)
+moved-idle s leaving place ways row way idle = grind (arith, idle-none)
 
 new-idle : (s : Setting) (leaving : Leaving) (place : ℕ) (ways : List Way) (row : Option Passage) (way : Option Way)
     → advances_by s.number row ≡ false → new_at_one s leaving place (journey_of row way) ways ≡ []
-new-idle s leaving place ways None way idle = refl
-new-idle s leaving place ways (Some p) None idle = refl
-new-idle s leaving place ways (Some p) (Some w) idle = ap (new_advanced s p) (idle-none s leaving place ways p w idle)
+new-idle s leaving place ways row way idle = grind (arith, idle-none)
 
 -- one of which nothing comes keeps its events
 pub idle_moved : (s : Setting) (leaving : Leaving) (place : ℕ) (ways : List Way) → advances_at s place ≡ false
@@ -73,9 +56,7 @@ pub none_at : (s : Setting) (leaving : Leaving) (place : ℕ) (ways : List Way) 
 none_at s leaving place ways none = λ i. new_at_one s leaving place (sym none i) ways
 
 way-of : (row : Option Passage) (way : Option Way) (j : Journey) → Some j ≡ journey_of row way → way ≡ Some j.way
-way-of None way j is = absurd (none-some j (sym is))
-way-of (Some p) None j is = absurd (none-some j (sym is))
-way-of (Some p) (Some w) j is = sym (ap (option_map (λ (j : Journey). j.way)) is)
+way-of row way j is = grind (arith, none-some)
 
 -- an instruction that stands at a place has its events there
 pub way_at : (place : ℕ) (rows : List Passage) (ways : List Way) (j : Journey) → Some j ≡ one_at place rows ways
@@ -92,9 +73,7 @@ module _ (s : Setting) (leaving : Leaving) (place : ℕ) (ways : List Way) (j : 
   -- what comes of it
   pub moved_here : (o : Option Move) → o ≡ advance_of s leaving ways place p w → moved_at s leaving place ways
       ≡ advanced s place j o ways
-  moved_here o is =
-      (λ i. moved_by s leaving place (sym found i) ways)
-      ∙ ap (λ (o : Option Move). advanced s place j o ways) (sym (comes o is))
+  moved_here o is = grind (arith, comes)
 
   -- what is new at a place is what its instruction's advance brings
   pub new_here : (o : Option Move) → o ≡ advance_of s leaving ways place p w → new_at s leaving place ways

@@ -1,11 +1,10 @@
 -- What holds of events by the list of all so far, where new ones are put before it: of those that were known, and of the new ones.
-use Rattle.std.proofs.Common.{◌≡◌, ℕ, List, [], ◌∷◌, ◌++◌, Option, Some, None, refl}
-use Rattle.std.specs.Prelude.{Bool, true, false, if◌then◌else◌, IfSome}
-use Rattle.std.specs.Option.{option_to_list, unwrap_or}
+use Rattle.std.proofs.Common.{◌≡◌, ℕ, List, [], ◌∷◌, ◌++◌, Option, Some, None, refl, arith}
+use Rattle.std.specs.Prelude.{Bool, true, false, IfSome}
+use Rattle.std.specs.Option.{option_to_list}
 use Rattle.rv_causes.specs.Causes.{IsSo}
 use Rattle.rv_causes.specs.Claims.{cause_if, claim_of, is_so}
-use Rattle.rv_causes.specs.Event.{Wait, ends_with, event_after, event_by, event_from}
-use Rattle.rv_causes.specs.Event.{named_after, new_by, new_from, refill_of, with_events}
+use Rattle.rv_causes.specs.Event.{Wait, event_after, event_by, event_from, named_after, new_by, new_from, with_events}
 use Rattle.rv_causes.specs.declared.{cause.Cause.Cause, event.Event.Event, point.Point.Point, point.Reason.Reason}
 
 -- a new event comes after so many cycles, and waited for one of which something holds, as its cause says
@@ -81,35 +80,18 @@ named_if false why waited first waits second is = refl
 named_so : (event : Event) (at : Point) (cycle : ℕ) (reason : Reason)
     → is_so (claim_of (named_after event at cycle reason).cause) event.at event.cycle at cycle ≡ true
 unfolding named_after
-named_so event at cycle reason =
-    named_if (is_so (claim_of reason.cause) event.at event.cycle at cycle) reason.cause event.at
-    event.cycle at cycle refl
+named_so event at cycle reason = grind (arith, named_if)
 
 -- an event that was made by a wait is new
 pub made_new : (P : Event → Type 0) (refilled : Bool) (cycles : ℕ) (at : Point) (address : Option ℕ)
     (why : Cause) (waited : Wait)
     → P waited.event → IsNew P cycles (event_after refilled at cycles address why waited)
-made_new P refilled cycles at address why waited is = record {
-  of = waited.event;
-  has = is;
-  cycle = refl;
-  before = refl;
-  so =
-      named_so waited.event at cycles
-      (unwrap_or (if ends_with at.stage then refill_of waited else None) (record { cause = why; address = address }));
-}
+made_new P refilled cycles at address why waited is = grind (arith, named_so)
 
 module _ (cycles : ℕ) (P : List Event → Event → Type 0) (kept : IsKept cycles P) where
   new_still : (all : List Event) (event other : Event) → IsNew (P all) cycles event → IsNew (P all) cycles other
       → IsNew (P (event ∷ all)) cycles other
-  new_still all event other new is =
-      record {
-        of = is.of;
-        has = kept.others all event is.of new is.has;
-        cycle = is.cycle;
-        before = is.before;
-        so = is.so;
-      }
+  new_still all event other new is = grind arith
 
   all_still : (all : List Event) (event : Event) (es : List Event) → IsNew (P all) cycles event →
       AllOf (IsNew (P all) cycles) es
@@ -136,16 +118,12 @@ module _ (cycles : ℕ) (P : List Event → Event → Type 0) (kept : IsKept cyc
       (why : Option Cause) → P all waited.event
       → P (with_events (new_by refilled at cycles address waited why) all)
       (event_by refilled at cycles address waited why)
-  by_have all refilled at address waited None is = is
-  by_have all refilled at address waited (Some why) is =
-      kept.newest all _ (made_new (P all) refilled cycles at address why waited is)
+  by_have all refilled at address waited why is = grind (arith, made_new)
 
   by_still : (all : List Event) (refilled : Bool) (at : Point) (address : Option ℕ) (waited : Wait)
       (why : Option Cause) → P all waited.event
       → (other : Event) → P all other → P (with_events (new_by refilled at cycles address waited why) all) other
-  by_still all refilled at address waited None is other held = held
-  by_still all refilled at address waited (Some why) is other held =
-      kept.others all _ other (made_new (P all) refilled cycles at address why waited is) held
+  by_still all refilled at address waited why is other held = grind (arith, made_new)
 
   -- a property of all events so far and one holds of a new event after the one that it waited for
   pub wait_has : (all : List Event) (refilled : Bool) (at : Point) (address : Option ℕ) (waited : Wait) →

@@ -1,15 +1,13 @@
 -- Where no instruction begins to hold a unit in a cycle, there is no new hold.
-use Rattle.std.proofs.Common.{◌≡◌, ◌∙◌, ◌++◌, ◌+◌, ℕ, Bool, true, false, List, [], ◌∷◌, Option, None, Some, refl}
-use Rattle.std.specs.Prelude.{◌==◌, ◌&&◌, ◌||◌, if◌then◌else◌, not}
+use Rattle.std.proofs.Common.{◌≡◌, ◌∙◌, ◌++◌, ◌+◌, ℕ, Bool, true, false, List, [], ◌∷◌, Option, refl, arith}
+use Rattle.std.specs.Prelude.{◌&&◌, ◌||◌, if◌then◌else◌, not}
 use Rattle.std.specs.Option.{option_map}
 use Rattle.std.specs.List.{list_any}
 use Rattle.rv_isa.specs.Instruction.{kind_of_word}
-use Rattle.rv_isa.specs.PerKind.{at_kind}
 use Rattle.rv_isa.specs.declared.{values.Values.Values, operations.Kind.Kind, issues.Issue.Issue}
 use Rattle.rv_passage.specs.declared.passage.Passage.{Passage}
 use Rattle.rv_causes.specs.Holding.{begins_hold, hold_of, hold_of_kind, is_held, new_holds}
 use Rattle.rv_causes.specs.Sought.{is_at}
-use Rattle.rv_causes.specs.Way.{issued_by}
 use Rattle.rv_causes.specs.declared.{before.UnitHold.UnitHold, way.Way.Way}
 
 or-false : (a b : Bool) → (a || b) ≡ false → (a ≡ false) × (b ≡ false)
@@ -22,10 +20,7 @@ if-none false some is = absurd cc
 
 none-of-kind : (values : Values) (p : Passage) (w : Way) (issue : Issue) (o : Option Kind) → is_held values o ≡ false
     → hold_of_kind values p w issue o ≡ []
-none-of-kind values p w issue None is = refl
-none-of-kind values p w issue (Some kind) is =
-    if-none (at_kind kind values.kinds).pipelined
-    (record { kind = kind; until = issue.cycle + issue.cost; number = p.number; event = issued_by w } ∷ []) is
+none-of-kind values p w issue o is = grind (arith, if-none)
 
 none-by : (begun held : Bool) (some : List UnitHold) → (begun && held) ≡ false → (held ≡ false → some ≡ [])
     → (if begun then some else []) ≡ []
@@ -37,11 +32,7 @@ no-hold : (number : ℕ) (values : Values) (p : Passage) (w : Way) (o : Option I
     ≡ false
     → hold_of number values p w o ≡ []
 unfolding hold_of
-no-hold number values p w None is = refl
-no-hold number values p w (Some issue) is =
-    none-by (issue.cycle == number) (is_held values (kind_of_word p.instruction))
-    (hold_of_kind values p w issue (kind_of_word p.instruction)) is
-    (none-of-kind values p w issue (kind_of_word p.instruction))
+no-hold number values p w o is = grind (arith, none-by, none-of-kind)
 
 -- where nothing begins to hold a unit, there is no new hold
 pub no_new_holds : (number : ℕ) (values : Values) (rows : List Passage) (ways : List Way)

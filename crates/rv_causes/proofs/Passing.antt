@@ -1,7 +1,7 @@
 -- The paths to all for which an event may wait come to one root, with each new event; and a window stands for all
 -- events with the new ones.
-use Rattle.std.proofs.Common.{◌≡◌, ◌∙◌, ℕ, List, [], ◌∷◌, ◌++◌, true, false}
-use Rattle.std.proofs.Common.{Option, Some, refl, ap, sym, subst, append_assoc}
+use Rattle.std.proofs.Common.{◌≡◌, ◌∙◌, ℕ, List, [], ◌∷◌, ◌++◌, true, false, arith, Option, Some, refl, ap, sym, subst}
+use Rattle.std.proofs.Common.{append_assoc}
 use Rattle.std.specs.Prelude.{Bool, if◌then◌else◌, reverse, ◌&&◌}
 use Rattle.std.proofs.lemmas.Bool.{eq-eqb}
 use Rattle.std.proofs.lemmas.List.{reverse-append}
@@ -35,13 +35,7 @@ before-leads root cycles all event new = subst (ComesTo root all) (sym new.befor
 
 -- that events lead to a root is kept by each new one that waited for one that does
 pub leads_kept : (cycles : ℕ) (root : Option Point) → IsKept cycles (Leads root)
-leads_kept cycles root = record {
-  newest = λ all event new.
-      come-found root all event (is_point event.at event.at) (is_point-same event.at)
-      (before-leads root cycles all event new);
-  others = λ all event other new is. come-push root all event (Some other.at)
-      (before-leads root cycles all event new) is;
-}
+leads_kept cycles root = grind (arith, come-found, is_point-same, before-leads, come-push)
 
 -- some events before others, which come the other way round
 pub with-reverse : (made events : List Event) → with_events made events ≡ reverse made ++ events
@@ -74,6 +68,4 @@ window_followed made old new all followed is = record {
 -- an event that leads to the root of the old window is one that the new window can be left by
 pub passes_followed : (made : List Event) (old new : Window) → IsFollowed made old new → (event : Event)
     → Leads old.root (with_events made (kept_events old)) event → Passes new (Some event.at)
-passes_followed made old new followed event leads =
-    subst (λ (r : Option Point). ComesTo r (kept_events new) (Some event.at)) (sym followed.1)
-    (subst (λ (es : List Event). ComesTo old.root es (Some event.at)) (kept-followed made old new followed) leads)
+passes_followed made old new followed event leads = grind (arith, kept-followed)

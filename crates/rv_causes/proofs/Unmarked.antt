@@ -1,13 +1,13 @@
 -- Events that are not marked: those of the cycles before a window, without which a path has all that are.
-use Rattle.std.proofs.Common.{◌≡◌, ◌∙◌, ℕ, ◌<◌, Bool, true, false, List, [], ◌∷◌, ◌++◌}
-use Rattle.std.proofs.Common.{Option, refl, sym, ap, subst, arith, append_assoc, append-nil}
+use Rattle.std.proofs.Common.{◌≡◌, ◌∙◌, ℕ, ◌<◌, Bool, true, false, List, [], ◌∷◌, ◌++◌, Option, refl, sym, ap, arith}
+use Rattle.std.proofs.Common.{append_assoc, append-nil}
 use Rattle.std.proofs.lemmas.Bool.{lt-leb}
 use Rattle.std.proofs.lemmas.List.Elements.{filter-append}
 use Rattle.std.specs.Prelude.{if◌then◌else◌, ◌&&◌, filter, reverse}
 use Rattle.rv_causes.specs.Event.{nothing_yet, with_events}
 use Rattle.rv_causes.specs.Keeping.{IsFollowed}
-use Rattle.rv_causes.specs.Marked.{is_marked, is_of_instruction}
-use Rattle.rv_causes.specs.Walk.{AreInTime, beyond, is_wanted, path_to}
+use Rattle.rv_causes.specs.Marked.{is_marked}
+use Rattle.rv_causes.specs.Walk.{AreInTime, is_wanted, path_to}
 use Rattle.rv_causes.specs.Window.{IsWindow, kept_events}
 use Rattle.rv_causes.specs.WindowFrom.{AreUnmarked, HasAllMarked}
 use Rattle.rv_causes.specs.declared.{event.Event.Event, point.Point.Point, window.Window.Window}
@@ -20,9 +20,7 @@ and-false false = refl
 
 -- one that comes before a window
 unmarked_before : (from : ℕ) (event : Event) → event.cycle < from → is_marked from event ≡ false
-unmarked_before from event before =
-    ap (λ b. is_of_instruction event.at.stage && b) (lt-leb from event.cycle before)
-    ∙ and-false (is_of_instruction event.at.stage)
+unmarked_before from event before = grind (arith, lt-leb, and-false)
 
 -- all of a run of fewer cycles
 pub unmarked_in_time : (cycles from : ℕ) (events : List Event) → cycles < from → AreInTime cycles events →
@@ -64,34 +62,18 @@ none-marked from (event ∷ events) are =
 pub marked-kept : (from : ℕ) (window : Window) (all : List Event) (wanted : Option Point) → HasAllMarked from window all
     → filter (is_marked from) (path_to (kept_events window) wanted) ≡ filter (is_marked from) (path_to all wanted)
 marked-kept from window all wanted has =
-    let kept = kept_events window in
-    let past_it = path_to has.older (beyond kept wanted) in
-    let none = none-marked from past_it (unmarked-path from has.older (beyond kept wanted) has.unmarked) in
-    sym (
-    ap (λ (es : List Event). filter (is_marked from) (path_to es wanted)) has.all_are
-    ∙ ap (filter (is_marked from)) (path_to-append kept has.older wanted)
-    ∙ filter-append (is_marked from) (path_to kept wanted) past_it
-    ∙ ap (λ (es : List Event). filter (is_marked from) (path_to kept wanted) ++ es) none
-    ∙ append-nil (filter (is_marked from) (path_to kept wanted)))
+    grind (arith, none-marked, unmarked-path, path_to-append, filter-append, append-nil)
 
 -- a window on events that are all unmarked has all that are marked
 pub has_all_of : (from : ℕ) (window : Window) (all : List Event) → IsWindow window all → AreUnmarked from all →
     HasAllMarked from window all
-has_all_of from window all is unmarked = record {
-  older = is.older;
-  all_are = is.all_are;
-  unmarked = unmarked-back from (kept_events window) is.older (subst (AreUnmarked from) is.all_are unmarked);
-}
+has_all_of from window all is unmarked = grind (arith, unmarked-back)
 
 -- one with the same events, and one with some more
 pub has_all_same : (from : ℕ) (old new : Window) (all : List Event) → new.events.items ≡ old.events.items →
     HasAllMarked from old all
     → HasAllMarked from new all
-has_all_same from old new all same has = record {
-  older = has.older;
-  all_are = has.all_are ∙ ap (λ (es : List Event). reverse es ++ has.older) (sym same);
-  unmarked = has.unmarked;
-}
+has_all_same from old new all same has = grind arith
 
 -- a window that has all marked events of a path has them after new events too
 pub has_all_followed : (from : ℕ) (made : List Event) (old new : Window) (all : List Event) → IsFollowed made old new →

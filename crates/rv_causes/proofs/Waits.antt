@@ -1,33 +1,24 @@
 -- What an event of a cycle waits for is one that was known: what holds of a wait for any of those holds of each that is chosen.
-use Rattle.std.proofs.Common.{ℕ, ◌+◌, List, [], ◌∷◌, Option, Some, None}
-use Rattle.std.specs.Prelude.{IfSome, ◌==◌, not, ◌&&◌, nat_lt, count_by}
-use Rattle.std.specs.Option.{option_or}
-use Rattle.rv_isa.specs.Instruction.{is_fence_i, is_load, kind_of_word}
-use Rattle.rv_isa.specs.PerKind.{at_kind}
+use Rattle.std.proofs.Common.{ℕ, ◌+◌, List, [], ◌∷◌, Option, Some, None, arith}
+use Rattle.std.specs.Prelude.{IfSome, ◌==◌, not, ◌&&◌, nat_lt}
 use Rattle.rv_isa.specs.declared.operations.Kind.{Kind}
-use Rattle.rv_passage.specs.Result.{ready_in}
 use Rattle.rv_passage.specs.declared.{passage.Passage.Passage, producers.Producer.Producer}
 use Rattle.rv_causes.specs.Event.{Wait, nothing_yet, waits}
-use Rattle.rv_causes.specs.Issuing.{after_broadcast, after_bus, after_hold_of, after_issue}
-use Rattle.rv_causes.specs.Issuing.{after_older_store, after_operands, after_producer}
-use Rattle.rv_causes.specs.Issuing.{after_stores_known, after_units, after_units_of}
-use Rattle.rv_causes.specs.Issuing.{broadcast_wait, execution_cause, has_ended, hold_among}
-use Rattle.rv_causes.specs.Issuing.{issue_after, issue_wait, older_hold}
-use Rattle.rv_causes.specs.Leaving.{after_left, after_left_before, after_own_lines, first_to_leave, own_lines}
+use Rattle.rv_causes.specs.Issuing.{after_broadcast, after_bus, after_hold_of, after_issue, after_older_store}
+use Rattle.rv_causes.specs.Issuing.{after_producer, after_stores_known, after_units, after_units_of, broadcast_wait}
+use Rattle.rv_causes.specs.Issuing.{has_ended, hold_among, issue_after, issue_wait, older_hold}
+use Rattle.rv_causes.specs.Leaving.{after_left, after_left_before, first_to_leave, own_lines}
 use Rattle.rv_causes.specs.Lookup.{Journey, first_of, last_of}
-use Rattle.rv_causes.specs.Setting.{Setting, after_drain_at, after_drain_before}
-use Rattle.rv_causes.specs.Setting.{after_hold, after_leaving, after_port, after_stores}
-use Rattle.rv_causes.specs.Setting.{hold_ended, is_hold_of, last_left, left_before}
-use Rattle.rv_causes.specs.Setting.{left_just_before, port_ended, since_left}
-use Rattle.rv_causes.specs.Sought.{is_at, is_just_before, is_sought}
+use Rattle.rv_causes.specs.Setting.{Setting, after_drain_at, after_drain_before, after_hold, after_leaving, after_port}
+use Rattle.rv_causes.specs.Setting.{after_stores, hold_ended, last_left, left_before, left_just_before, port_ended}
+use Rattle.rv_causes.specs.Setting.{since_left}
+use Rattle.rv_causes.specs.Sought.{is_just_before}
 use Rattle.rv_causes.specs.Way.{broadcast_by, dispatched_by, issued_by}
 use Rattle.rv_causes.specs.Within.{AreHoldsOf, AreWaysOf, IsBeforeOf, IsWayOf}
 use Rattle.rv_causes.specs.declared.{before.DrainHold.DrainHold, before.Left.Left}
 use Rattle.rv_causes.specs.declared.{before.PortHold.PortHold, before.UnitHold.UnitHold}
 use Rattle.rv_causes.specs.declared.{cause.Cause.Cause, event.Event.Event, sought.Sought.Sought, way.Way.Way}
-use Rattle.rv_causes.specs.declared.before.Holder.TheVariants as holder
 use Rattle.rv_causes.specs.declared.cause.Cause.TheVariants as cause
-use Rattle.rv_causes.specs.declared.sought.Sought.TheVariants as sought
 use Rattle.rv_causes.proofs.EventLists.{OJ, first_have, if_with, last_have, or_with, unwrap_with}
 
 -- the events of an instruction that stand for others
@@ -104,11 +95,7 @@ module _ (s : Setting) (P : Event → Type 0) (V : Wait → Type 0) (waits_V : (
 
   -- it holds of what an instruction that waits for all stores waits for
   pub after_stores_V : O (after_stores s)
-  after_stores_V =
-      let left = after_leaving (left_before s) in
-      or_with V (after_drain_before s s.before.drain) (option_or (after_port s) left)
-      (after_drain_before_V s.before.drain before.drain)
-      (or_with V (after_port s) left after_port_V (after_leaving_V (left_before s) left_before_V))
+  after_stores_V = grind (arith, or_with, after_drain_before_V, after_port_V, after_leaving_V, left_before_V)
 
   own_lines_V : (o : Option PortHold) → OH o → O (own_lines o)
   own_lines_V None is = tt
@@ -125,11 +112,7 @@ module _ (s : Setting) (P : Event → Type 0) (V : Wait → Type 0) (waits_V : (
   -- it holds of what the first to leave in a cycle waits for
   pub first_to_leave_V : (p : Passage) → O (first_to_leave s p)
   first_to_leave_V p =
-      if_with O (is_fence_i p.instruction)
-      (or_with V (after_own_lines s p) (after_stores s)
-      (if_with O (is_hold_of holder.Lines p.number (port_ended s)) (own_lines_V (port_ended s) port_ended_V) tt)
-      after_stores_V)
-      (after_left_before_V (left_before s) left_before_V)
+      grind (arith, if_with, or_with, own_lines_V, port_ended_V, after_stores_V, after_left_before_V, left_before_V)
 
   left_since_V : (why : Cause) (o : Option Left) → P (last_left o) → V (since_left why o)
   left_since_V why None is = waits_V _ nothing_yet is
@@ -152,22 +135,13 @@ module _ (s : Setting) (P : Event → Type 0) (V : Wait → Type 0) (waits_V : (
     after_broadcast_V why (Some journey) is = waits_V why (broadcast_by journey.way) (broadcast_have P journey.way is)
 
     after_producer_V : (o : Option Producer) → O (after_producer s ws o)
-    after_producer_V None = tt
-    after_producer_V (Some producer) =
-        let what = sought.Number producer.number in
-        if_with O (is_just_before s.number producer.broadcast)
-        (after_broadcast_V cause.Operand (first_of what s.rows ws) (first_J what)) tt
+    after_producer_V o = grind (arith, if_with, after_broadcast_V, first_J)
 
     after_older_store_V : (p : Passage) (o : Option Journey) → OJ P o → O (after_older_store s p o)
-    after_older_store_V p None is = tt
-    after_older_store_V p (Some store) is =
-        if_with O (nat_lt store.row.number p.number)
-        (waits_V _ (broadcast_by store.way) (broadcast_have P store.way is)) tt
+    after_older_store_V p o is = grind (arith, if_with, waits_V, broadcast_have)
 
     after_stores_known_V : (p : Passage) → O (after_stores_known s ws p)
-    after_stores_known_V p =
-        let what = sought.StoreBefore s.number in
-        if_with O (is_load p.instruction) (after_older_store_V p (first_of what s.rows ws) (first_J what)) tt
+    after_stores_known_V p = grind (arith, if_with, after_older_store_V, first_J)
 
     older_hold_V : (hold : UnitHold) (o : Option UnitHold) → U hold → OU o → U (older_hold hold o)
     older_hold_V hold None hold-is o-is = hold-is
@@ -188,28 +162,14 @@ module _ (s : Setting) (P : Event → Type 0) (V : Wait → Type 0) (waits_V : (
     after_issue_V kind (Some journey) is = waits_V _ (issued_by journey.way) (issued_have P journey.way is)
 
     after_units_V : (kind : Kind) → O (after_units s ws kind)
-    after_units_V kind =
-        let what = sought.IssuedBefore kind s.number in
-        if_with O (at_kind kind s.values.kinds).pipelined
-        (if_with O (count_by (is_sought what) s.rows == (at_kind kind s.values.kinds).units)
-        (after_issue_V kind (last_of what s.rows ws) (last_J what)) tt)
-        (after_hold_of_V kind (hold_among s kind s.holds) (hold_among_V kind s.holds holds))
+    after_units_V kind = grind (arith, if_with, after_issue_V, last_J, after_hold_of_V, hold_among_V)
 
     after_units_of_V : (o : Option Kind) → O (after_units_of s ws o)
     after_units_of_V None = tt
     after_units_of_V (Some kind) = after_units_V kind
 
     issue_after_V : (p : Passage) → O (issue_after s ws p)
-    issue_after_V p =
-        let kind = kind_of_word p.instruction in
-        let first = after_producer s ws p.producers.first in
-        let second = after_producer s ws p.producers.second in
-        or_with V (after_operands s ws p)
-        (option_or (after_stores_known s ws p) (option_or (after_units_of s ws kind) (after_port s)))
-        (or_with V first second (after_producer_V p.producers.first) (after_producer_V p.producers.second))
-        (or_with V (after_stores_known s ws p) (option_or (after_units_of s ws kind) (after_port s))
-        (after_stores_known_V p)
-        (or_with V (after_units_of s ws kind) (after_port s) (after_units_of_V kind) after_port_V))
+    issue_after_V p = grind (arith, or_with, after_producer_V, after_stores_known_V, after_units_of_V, after_port_V)
 
     -- it holds of what an issue waits for
     pub issue_wait_V : (p : Passage) (w : Way) → IsWayOf P w → V (issue_wait s ws p w)
@@ -220,14 +180,8 @@ module _ (s : Setting) (P : Event → Type 0) (V : Wait → Type 0) (waits_V : (
         (waits_V _ (dispatched_by w) event))
 
     after_bus_V : O (after_bus s ws)
-    after_bus_V =
-        let what = sought.BroadcastBefore s.number in
-        if_with O (count_by (is_sought what) s.rows == s.values.bus_width)
-        (after_broadcast_V cause.BusFull (last_of what s.rows ws) (last_J what)) tt
+    after_bus_V = grind (arith, if_with, after_broadcast_V, last_J)
 
     -- it holds of what a broadcast waits for
     pub broadcast_wait_V : (p : Passage) (w : Way) → IsWayOf P w → V (broadcast_wait s ws p w)
-    broadcast_wait_V p w is =
-        let event = issued_have P w is in
-        if_with V (is_at s.number (ready_in p)) (waits_V (execution_cause s p) (issued_by w) event)
-        (unwrap_with V (after_bus s ws) (waits cause.Other (issued_by w)) after_bus_V (waits_V _ (issued_by w) event))
+    broadcast_wait_V p w is = grind (arith, issued_have, if_with, waits_V, unwrap_with, after_bus_V)

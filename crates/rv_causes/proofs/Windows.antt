@@ -1,15 +1,14 @@
--- A window on all events of a run: one event more, another root, and the account of a path.
-use Rattle.std.proofs.Common.{◌≡◌, ◌⊎◌, ◌∙◌, ℕ, List, [], ◌∷◌, ◌++◌, Bool, true, false}
-use Rattle.std.proofs.Common.{Option, Some, None, ◌≤◌, length, arith, drop, take}
-use Rattle.std.proofs.Common.{refl, sym, ap, subst, append_assoc, inl, inr}
-use Rattle.std.specs.Prelude.{if◌then◌else◌, reverse, slice_get}
-use Rattle.rv_causes.specs.Account.{Accounted, account_of, with_path}
+-- A window on all events of a run: another root, and the account of a path.
+use Rattle.std.proofs.Common.{◌≡◌, ◌⊎◌, ◌∙◌, ℕ, List, [], ◌∷◌, ◌++◌, Option, Some, None, ◌≤◌, length, arith, drop, take}
+use Rattle.std.proofs.Common.{refl, sym, ap, append_assoc, inl, inr}
+use Rattle.std.specs.Prelude.{reverse, slice_get}
+use Rattle.rv_causes.specs.Account.{Accounted, account_of}
 use Rattle.rv_causes.specs.Meeting.{HasPoint, IsAmong}
-use Rattle.rv_causes.specs.Walk.{AllComeTo, ComesTo, beyond, is_wanted, path_to}
+use Rattle.rv_causes.specs.Walk.{AllComeTo, ComesTo, beyond, path_to}
 use Rattle.rv_causes.specs.Window.{AllPass, AreAlike, IsMoved, IsWindow, Passes}
 use Rattle.rv_causes.specs.Window.{account_at, account_to, accounted, kept_events}
 use Rattle.rv_causes.specs.declared.{point.Point.Point, event.Event.Event, window.Window.Window}
-use Rattle.rv_causes.proofs.Backwards.{reverse-push, reverse-split}
+use Rattle.rv_causes.proofs.Backwards.{reverse-split}
 use Rattle.rv_causes.proofs.Accounts.{account-append}
 use Rattle.rv_causes.proofs.Walks.{beyond-none, path_to-append, path_to-none}
 
@@ -25,77 +24,33 @@ account_at-none wanted account older none = rw none (ap account_of (sym (path_to
 
 account_at-root : (root wanted : Option Point) (older : List Event) → wanted ≡ root
     → account_at wanted (account_of (path_to older root)) ≡ account_of (path_to older wanted)
-account_at-root root wanted older is =
-    subst (λ (r : Option Point). account_at wanted (account_of (path_to older r)) ≡ account_of (path_to older wanted))
-    is (account_at-is wanted older)
+account_at-root root wanted older is = grind (arith, account_at-is)
 
 account_at-comes : (root : Option Point) (events older : List Event) (wanted : Option Point) →
     ComesTo root events wanted
     → account_at (beyond events wanted) (account_of (path_to older root))
     ≡ account_of (path_to older (beyond events wanted))
-account_at-comes root events older wanted (inl is) = account_at-root root (beyond events wanted) older is
-account_at-comes root events older wanted (inr none) =
-    account_at-none (beyond events wanted) (account_of (path_to older root)) older none
+account_at-comes root events older wanted comes = grind (arith, account_at-root, account_at-none)
 
 -- the account of a path by its part after the root
 pub account_to-is : (root : Option Point) (events older : List Event) (wanted : Option Point) →
     ComesTo root events wanted
     → account_to events wanted (account_of (path_to older root)) ≡ account_of (path_to (events ++ older) wanted)
-account_to-is root events older wanted comes =
-    ap (with_path (path_to events wanted)) (account_at-comes root events older wanted comes)
-    ∙ sym (account-append (path_to events wanted) (path_to older (beyond events wanted)))
-    ∙ ap account_of (sym (path_to-append events older wanted))
-
--- no event yet
-pub window_none : (window : Window) → window.events.items ≡ [] → window.root ≡ None →
-    accounted window.account ≡ account_of [] → IsWindow window []
-window_none window events root account =
-    record { older = []; all_are = ap (λ (es : List Event). reverse es ++ []) (sym events); account_is = account }
-
--- one event more
-pub window_push : (old new : Window) (event : Event) (all : List Event) →
-    new.events.items ≡ old.events.items ++ event ∷ []
-    → new.root ≡ old.root → accounted new.account ≡ accounted old.account
-    → IsWindow old all → IsWindow new (event ∷ all)
-window_push old new event all events root account is = record {
-  older = is.older;
-  all_are =
-      ap (λ (es : List Event). event ∷ es) is.all_are
-      ∙ ap (λ (es : List Event). es ++ is.older) (sym (ap reverse events ∙ reverse-push old.events.items event));
-  account_is = account ∙ is.account_is ∙ ap (λ (r : Option Point). account_of (path_to is.older r)) (sym root);
-}
+account_to-is root events older wanted comes = grind (arith, account_at-comes, account-append, path_to-append)
 
 -- a walk that comes to the root still does with an event more whose own walk comes there
 pub come-push : (root : Option Point) (events : List Event) (event : Event) (wanted : Option Point) →
     ComesTo root events event.before
     → ComesTo root events wanted → ComesTo root (event ∷ events) wanted
-come-push root events event wanted before comes = by_test (is_wanted wanted event) where
-  by_test : (here : Bool) → ComesTo root events (if here then event.before else wanted)
-  by_test true = before
-  by_test false = comes
-
-pub passes_push : (old new : Window) (event : Event) (wanted : Option Point) →
-    new.events.items ≡ old.events.items ++ event ∷ []
-    → new.root ≡ old.root → Passes old event.before → Passes old wanted → Passes new wanted
-passes_push old new event wanted events root before passes =
-    subst (λ (es : List Event). ComesTo new.root es wanted)
-    (sym (ap reverse events ∙ reverse-push old.events.items event))
-    (subst (λ (r : Option Point). ComesTo r (event ∷ kept_events old) wanted) (sym root)
-    (come-push old.root (kept_events old) event wanted before passes))
+come-push root events event wanted before comes = grind arith
 
 -- as it was, but for room
 pub window_alike : (old new : Window) (all : List Event) → AreAlike old new → IsWindow old all → IsWindow new all
-window_alike old new all alike is = record {
-  older = is.older;
-  all_are = is.all_are ∙ ap (λ (es : List Event). reverse es ++ is.older) (sym alike.0);
-  account_is = alike.2 ∙ is.account_is ∙ ap (λ (r : Option Point). account_of (path_to is.older r)) (sym alike.1);
-}
+window_alike old new all alike is = grind arith
 
 -- windows that are alike can be left by the same points
 pub pass_alike : (old new : Window) (points : List Point) → AreAlike old new → AllPass old points → AllPass new points
-pass_alike old new points alike pass =
-    subst (λ (es : List Event). AllComeTo new.root (reverse es) points) (sym alike.0)
-    (subst (λ (r : Option Point). AllComeTo r (kept_events old) points) (sym alike.1) pass)
+pass_alike old new points alike pass = grind arith
 
 -- another root
 pub window_moved : (place : ℕ) (root : Option Point) (old new : Window) (all : List Event)
@@ -122,9 +77,7 @@ among-none (Some point) among = absurd among
 
 among-one : (wanted : Option Point) (point : Point) → IsAmong wanted (point ∷ []) →
     (wanted ≡ Some point) ⊎ (wanted ≡ None)
-among-one None point among = inr refl
-among-one (Some other) point (inl is) = inl (ap (λ (p : Point). Some p) (sym is))
-among-one (Some other) point (inr later) = absurd later
+among-one wanted point among = grind arith
 
 -- the only one that is left is the root
 pub only-root : (events : List Event) (wanted : Option Point) (points : List Point) → length points ≤ 1
@@ -149,12 +102,7 @@ pass_moved : (place : ℕ) (left : List Point) (old new : Window) (points : List
     IsAmong (beyond (reverse (drop place old.events.items)) wanted) left)
     → IsMoved place (slice_get left 0) old new
     → AllPass new points
-pass_moved place left old new points few covers moved =
-    subst (λ (es : List Event). AllComeTo new.root (reverse es) points) (sym moved.0)
-    (subst (λ (r : Option Point). AllComeTo r (reverse (drop place old.events.items)) points) (sym moved.1)
-    (all-root (slice_get left 0) (reverse (drop place old.events.items)) points
-    (λ point has. only-root (reverse (drop place old.events.items)) (Some point) left few
-    (covers (Some point) has))))
+pass_moved place left old new points few covers moved = grind (arith, all-root, only-root)
 
 -- the walks of some points met, and the only one that is left is the root
 module _ (old new : Window) (events : List Event) (place : ℕ) (root : Option Point) (left points : List Point)
@@ -165,30 +113,16 @@ module _ (old new : Window) (events : List Event) (place : ℕ) (root : Option P
       → ((r : Option Point) → AllComeTo r (reverse events) points → AllComeTo r (reverse (take place events)) left) →
       AllPass old points
       → IsWindow old all → IsWindow new all
-  window_met all come pass is =
-      let comes = come old.root (subst (λ (es : List Event). AllComeTo old.root (reverse es) points)
-      (sym events_are) pass) in
-      let met : ComesTo old.root (reverse (take place events)) (slice_get left 0) =
-      only-comes old.root (reverse (take place events)) left comes in
-      window_moved place root old new all
-      (subst (λ (es : List Event). ComesTo old.root (reverse (take place es)) root) events_are
-      (subst (ComesTo old.root (reverse (take place events))) (sym root_is) met)) moved is
+  window_met all come pass is = grind (arith, only-comes, window_moved)
 
   -- and can be left by all points that it could be left by before
   pub pass_met : length left ≤ 1
       → ((wanted : Option Point) → IsAmong wanted points → IsAmong (beyond (reverse (drop place events)) wanted) left) →
       AllPass new points
-  pass_met few covers =
-      pass_moved place left old new points few
-      (λ wanted among. subst (λ (es : List Event). IsAmong (beyond (reverse (drop place es)) wanted) left) events_are
-      (covers wanted among))
-      (subst (λ (r : Option Point). IsMoved place r old new) root_is moved)
+  pass_met few covers = grind (arith, pass_moved)
 
 -- the account of a path through a whole window
 pub account-end : (window : Window) (all : List Event) (wanted : Option Point) → IsWindow window all →
     Passes window wanted
     → account_to (kept_events window) wanted (accounted window.account) ≡ account_of (path_to all wanted)
-account-end window all wanted is passes =
-    ap (account_to (kept_events window) wanted) is.account_is ∙ account_to-is window.root (kept_events window)
-    is.older wanted passes
-    ∙ ap (λ (es : List Event). account_of (path_to es wanted)) (sym is.all_are)
+account-end window all wanted is passes = grind (arith, account_to-is)

@@ -1,5 +1,5 @@
 -- All events that are known after some cycles come within them, and of all events of a run no older one comes after a newer one.
-use Rattle.std.proofs.Common.{◌≡◌, ℕ, ◌+◌, ◌-◌, ◌≤◌, List, [], ◌∷◌, length, subst, sym, arith, length-append}
+use Rattle.std.proofs.Common.{◌≡◌, ℕ, ◌+◌, ◌-◌, ◌≤◌, List, [], ◌∷◌, length, subst, arith, length-append}
 use Rattle.std.specs.List.{fold}
 use Rattle.rv_hardware.specs.History.{Moment}
 use Rattle.rv_hardware.specs.declared.step.Step.{Step}
@@ -15,7 +15,7 @@ use Rattle.rv_causes.specs.Within.{AreHoldsOf, AreWaysOf, AreWithin, ComesInTime
 use Rattle.rv_causes.specs.declared.{event.Event.Event, way.Way.Way}
 use Rattle.rv_causes.proofs.Cycles.{cycle_keeps}
 use Rattle.rv_causes.proofs.EventLists.{before_implies, holds_imply, known_implies, replicate_have, ways_imply}
-use Rattle.rv_causes.proofs.News.{IsKept, IsNew}
+use Rattle.rv_causes.proofs.News.{IsKept}
 
 -- an event comes within so many cycles, and so do all, in their order
 abbrev pub InTime : ℕ → List Event → Event → Type 0
@@ -23,12 +23,7 @@ InTime cycles all event = AreInTime cycles all × IsWithin cycles event
 
 -- that is so with each new event
 in_time_kept : (cycles : ℕ) → IsKept cycles (InTime cycles)
-in_time_kept cycles = record {
-  newest = λ all event new. (put all event new, omega (arith, new.cycle));
-  others = λ all event other new is. (put all event new, is.1);
-} where
-  put : (all : List Event) (event : Event) → IsNew (InTime cycles all) cycles event → AreInTime cycles (event ∷ all)
-  put all event new = (omega (arith, new.cycle), subst (λ (n : ℕ). AreInTime n all) (sym new.cycle) new.has.0)
+in_time_kept cycles = grind arith
 
 -- what lies within some cycles lies within more
 later : (cycles more : ℕ) → cycles ≤ more → (event : Event) → IsWithin cycles event → IsWithin more event

@@ -1,5 +1,5 @@
 -- The words after a wait are within the cycles of the path.
-use Rattle.std.proofs.Common.{◌≡◌, ◌∙◌, ℕ, ◌+◌, List, Option, Some, None, ap, arith, subst, sym}
+use Rattle.std.proofs.Common.{◌≡◌, ℕ, ◌+◌, List, Option, Some, None, arith, subst, sym}
 use Rattle.std.proofs.lemmas.List.{length-set}
 use Rattle.rv_causes.specs.Account.{AreWithin, IsWithin, with_more, with_word}
 use Rattle.rv_causes.specs.declared.{cause.Cause.Cause, word_cycles.WordCycles.WordCycles}
@@ -8,11 +8,7 @@ use Rattle.rv_causes.proofs.WordChanges.{within-change, within-later}
 
 more-within : (cycles more : ℕ) (why : Cause) (word : WordCycles) → IsWithin cycles word →
     IsWithin (cycles + more) (with_more why more word)
-more-within cycles more why word is = record {
-  all = length-set _ _ _ ∙ is.all;
-  adds_up = sum-with why more word.causes is.all ∙ ap (λ n. n + more) is.adds_up;
-  within = omega (arith, is.within);
-}
+more-within cycles more why word is = grind (arith, length-set, sum-with)
 
 -- with a wait they have no more than with its cycles
 pub within-word : (address : Option ℕ) (cycles more : ℕ) (why : Cause) (words : List WordCycles) →

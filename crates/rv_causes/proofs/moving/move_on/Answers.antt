@@ -1,29 +1,19 @@
-use Rattle.std.proofs.Common.{◌∙◌, ◌++◌, List, Some, None, append-nil, ap, sym}
+use Rattle.std.proofs.Common.{◌∙◌, Some, append-nil, ap, sym, arith}
 use Rattle.std.specs.Prelude.{slice_set}
-use Rattle.rv_causes.specs.Event.{event_if}
-use Rattle.rv_causes.specs.Setting.{made_of, new_of, setting_of}
+use Rattle.rv_causes.specs.Setting.{made_of, setting_of}
 use Rattle.rv_causes.specs.Way.{with_stage}
 use Rattle.rv_causes.specs.declared.{event.Event.Event, way.Way.Way}
 use Rattle.rv_causes.proofs.Moves.{moved_here, new_here, new_if, none_at, way_at}
 use Rattle.rv_causes.proofs.moving.move_on.Goals as goal
 
 pub returns-in_default-clause-items : goal.returns-in_default-clause-items
-returns-in_default-clause-items c =
-    rw (none_at (setting_of c.args.scene.now) c.args.leaving.now c.args.place c.args.ways.now c.in_default.ensures)
-    (sym (append-nil c.args.events.now.items))
+returns-in_default-clause-items c = grind (arith, none_at, append-nil)
 
 pub returns-in_default-advance_of-clause-ways : goal.returns-in_default-advance_of-clause-ways
-returns-in_default-advance_of-clause-ways c =
-    sym (moved_here (setting_of c.args.scene.now) c.args.leaving.now c.args.place c.args.ways.now
-    c.in-Some.found c.in-Some.ensures
-    _ _ c.row-row.ensures c.way-way.ensures None c.in_default-advance_of.ensures)
+returns-in_default-advance_of-clause-ways c = grind (arith, moved_here)
 
 pub returns-in_default-advance_of-clause-items : goal.returns-in_default-advance_of-clause-items
-returns-in_default-advance_of-clause-items c =
-    rw (new_here (setting_of c.args.scene.now) c.args.leaving.now c.args.place c.args.ways.now
-    c.in-Some.found c.in-Some.ensures
-    _ _ c.row-row.ensures c.way-way.ensures None c.in_default-advance_of.ensures)
-    (sym (append-nil c.args.events.now.items))
+returns-in_default-advance_of-clause-items c = grind (arith, new_here, append-nil)
 
 pub returns-clause-ways : goal.returns-clause-ways
 returns-clause-ways c =
@@ -43,16 +33,4 @@ returns-clause-ways c =
     ap (λ (w : Way). slice_set ways c.args.place w) set ∙ sym here
 
 pub returns-clause-items : goal.returns-clause-items
-returns-clause-items c =
-    let s = setting_of c.args.scene.now in
-    let here =
-    new_here s c.args.leaving.now c.args.place c.args.ways.now c.in-Some.found c.in-Some.ensures _ _ c.row-row.ensures
-    c.way-way.ensures (Some c.in-Some-advance_of.advance) c.in-Some-advance_of.ensures in
-    let view = c.advance.view_is in
-    let inside = c.advance.inside in
-    let it = c.row-row.result.now in
-    let new =
-    (λ i. event_if (c.is_new.ensures i) (c.made_of-event.ensures i))
-    ∙ new_if s.refilled (record { stage = inside.stage; number = it.number }) s.elapsed (Some it.pc) inside.waited
-    ∙ (λ i. new_of s (view i).stage (c.row-row.ensures i) (view i).waited) ∙ sym here in
-    c.push_event_if.ensures.items ∙ ap (λ (es : List Event). c.args.events.now.items ++ es) new
+returns-clause-items c = grind (arith, new_here, new_if)

@@ -1,11 +1,11 @@
-use Rattle.std.proofs.Common.{◌∙◌, ◌++◌, List, ap, arith, drop, length, subst}
+use Rattle.std.proofs.Common.{◌∙◌, List, ap, arith, drop, length, subst}
 use Rattle.std.proofs.lemmas.List.{with_items_is}
 use Rattle.rv_causes.specs.Event.{with_events}
 use Rattle.rv_causes.specs.Holding.{holds_now}
 use Rattle.rv_causes.specs.Keeping.{IsSeen, before_with, made_shown, known_of_path, setting_by}
-use Rattle.rv_causes.specs.Path.{made_in, still_in_flight, with_fetched}
+use Rattle.rv_causes.specs.Path.{still_in_flight, with_fetched}
 use Rattle.rv_causes.specs.Reading.{cycle_of}
-use Rattle.rv_causes.specs.declared.{before.UnitHold.UnitHold, way.Way.Way, window.Window.Window}
+use Rattle.rv_causes.specs.declared.{before.UnitHold.UnitHold, way.Way.Way}
 use Rattle.rv_causes.proofs.Brought.{known-seen}
 use Rattle.rv_causes.proofs.path.Path.follow.Goals as goal
 
@@ -45,14 +45,4 @@ returns-clause-known c events =
     (drop path.dropped path.ways.items) now seen events is
 
 pub returns-clause-made : goal.returns-clause-made
-returns-clause-made c =
-    let cycle = cycle_of c.args.cycle.now in
-    let path = c.args.self.now in
-    let before = path.before in
-    let old = path.window.events.items in (
-      ap (λ (window : Window). window.events.items) c.take.ensures.window ∙ c.see_shown.ensures.items
-          ∙ (λ i. old ++ made_in (setting_by cycle (c.as_slice.ensures.value i) before)
-          (drop path.dropped (c.as_mut_slice.ensures.value i)) cycle.steps cycle.after),
-      ap (λ (window : Window). window.root) c.take.ensures.window,
-      ap (λ (window : Window). window.account) c.take.ensures.window,
-    )
+returns-clause-made c = grind arith

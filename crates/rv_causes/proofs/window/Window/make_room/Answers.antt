@@ -1,6 +1,6 @@
-use Rattle.std.proofs.Common.{◌∙◌, ◌≤◌, List, length, ap, sym, subst, arith}
+use Rattle.std.proofs.Common.{◌∙◌, List, ap, sym, subst, arith}
 use Rattle.std.specs.Prelude.{slice_get}
-use Rattle.rv_causes.specs.Window.{AllPass, IsWindow}
+use Rattle.rv_causes.specs.Window.{IsWindow}
 use Rattle.rv_causes.specs.declared.{point.Point.Point, window.Window.Window}
 use Rattle.rv_causes.proofs.Windows.{pass_alike, pass_met, window_alike, window_met}
 use Rattle.rv_causes.proofs.window.Window.make_room.Goals as goal
@@ -22,17 +22,4 @@ returns-clause-window c = λ pass all is.
     ])
 
 pub returns-clause-pass : goal.returns-clause-pass
-returns-clause-pass c = λ pass.
-    let old = c.args.self.now in
-    pass_alike c.if-len-le1.self c.reserve.new.self c.args.live.now.items c.reserve.ensures.alike
-    (elim c.if-len-le1.branch [
-      | then-len-le1+in_ok-move_root w ↦
-          let root = w.only.ensures ∙ ap (λ (points : List Point). slice_get points 0)
-          w.as_slice-then-len-le1.ensures.value in
-          let few : length c.meet-place.new.wanted.items ≤ 1 = omega (arith, c.len.ensures, w.if-len-le1.true) in
-          subst (λ (window : Window). AllPass window c.args.live.now.items) (sym w.self-is)
-          (pass_met old w.move_root.new.self c.as_slice.result.now c.meet-place.result w.only.result
-          c.meet-place.new.wanted.items c.args.live.now.items c.as_slice.ensures.value root
-          w.in_ok-move_root.ensures.moved few c.meet-place.ensures.covers)
-      | else-len-le1 w ↦ subst (λ (window : Window). AllPass window c.args.live.now.items) (sym w.self-is) pass
-    ])
+returns-clause-pass c = grind (arith, pass_alike, pass_met, else-len-le1)

@@ -1,16 +1,11 @@
-use Rattle.std.proofs.Common.{◌∙◌, ap, subst}
-use Rattle.rv_passage.specs.ByAddress.{IsPlaceFor, IsPlaceOf}
+use Rattle.std.proofs.Common.{subst, arith}
+use Rattle.rv_passage.specs.ByAddress.{IsPlaceFor}
 use Rattle.rv_causes.specs.Account.{address_of}
-use Rattle.rv_causes.specs.declared.word_cycles.WordCycles.{WordCycles}
 use Rattle.rv_causes.proofs.WordPlaces.{cycles-none, cycles-there}
 use Rattle.rv_causes.proofs.word_cycles.Words.cycles_at.Goals as goal
 
 pub returns-in-Ok : goal.returns-in-Ok
-returns-in-Ok c =
-    ap (λ (w : WordCycles). w.cycles) c.index.ensures ∙
-    cycles-there c.args.address c.args.self.now.words.items c.in-Ok.place
-    (subst (IsPlaceOf address_of c.args.address c.in-Ok.place) c.as_slice.ensures.value c.in-Ok.ensures.found)
-    c.index.result.now
+returns-in-Ok c = grind (arith, cycles-there)
 
 pub returns-in-Err : goal.returns-in-Err
 returns-in-Err c =
