@@ -1,7 +1,7 @@
 -- What is counted of a run for a comparison: nothing yet, one cycle more, and the end.
 use Rattle.std.proofs.Common.{◌≡◌, ◌∙◌, ℕ, ◌+◌, ◌-◌, ◌^◌, ◌≤◌, ◌<◌, ◌*◌, Bool, true, false, List, []}
-use Rattle.std.proofs.Common.{◌∷◌, ◌++◌, length, sym, ap, arith, length-append, Option, Some, None}
-use Rattle.std.specs.Prelude.{if◌then◌else◌, nat_lt, ◌==◌}
+use Rattle.std.proofs.Common.{◌∷◌, ◌++◌, count_by, length, sym, ap, arith, length-append, Option, Some, None}
+use Rattle.std.specs.Prelude.{if◌then◌else◌}
 use Rattle.std.proofs.lemmas.List.Sums.{count_by-le-length}
 use Rattle.rv_isa.specs.declared.{lines.Arrival.Arrival, values.Values.Values}
 use Rattle.rv_arch.specs.declared.outcome.Stop.{Stop}
@@ -18,7 +18,7 @@ use Rattle.rv_hardware.specs.Step.{is_interrupt, is_retirement, is_trap}
 use Rattle.rv_hardware.specs.declared.step.Step.{Step}
 use Rattle.rv_report.specs.Comparison.{RunsTo}
 use Rattle.rv_report.specs.Events.{AreAtMost, begun, both_events, counted_after, events_between, events_by}
-use Rattle.rv_report.specs.Events.{events_in, events_of_drain, events_of_steps, events_so_far, happens, no_events}
+use Rattle.rv_report.specs.Events.{events_in, events_of_drain, events_of_steps, events_so_far, no_events}
 use Rattle.rv_report.specs.Speculation.{CanCount, Speculated, in_flight, speculated_after, speculated_at, speculated_in}
 use Rattle.rv_report.specs.Tally.{IsTallied, losses_with}
 use Rattle.rv_report.specs.Totals.{HasRoom, both_counts, counts_of, totals_with}
@@ -26,7 +26,6 @@ use Rattle.rv_report.specs.Shown.{places_shown, words_of}
 use Rattle.rv_report.specs.declared.shown.{Columns.Columns, TableOptions.TableOptions}
 use Rattle.rv_report.specs.declared.{events.EventCounter.EventCounter, events.Events.Events}
 use Rattle.rv_report.specs.declared.{losses.Losses.Losses, totals.StepCounts.StepCounts, totals.Totals.Totals}
-use Rattle.rv_report.specs.declared.events.Event.TheVariants.{Branch, Load, Miss, WriteBack}
 use Rattle.rv_counts.specs.Places.{AddUp, AreLostFor}
 use Rattle.rv_counts.specs.declared.{loads.LoadCosts.LoadCosts, run_places.RunPlaces.RunPlaces}
 use Rattle.rv_report.proofs.LiveReport.{counts_of-append}
@@ -37,39 +36,10 @@ abbrev sum_with : Events → Events → Events → Type 0
 sum_with a b c = both_events (both_events a b) c ≡ both_events a (both_events b c)
 
 both-both : (a b c : Events) → sum_with a b c
-both-both a b c =
-    let branches : a.branches + b.branches + c.branches ≡ a.branches + (b.branches + c.branches) = omega arith in
-    let loads : a.loads + b.loads + c.loads ≡ a.loads + (b.loads + c.loads) = omega arith in
-    let drains : a.drains + b.drains + c.drains ≡ a.drains + (b.drains + c.drains) = omega arith in
-    let hits : a.hits + b.hits + c.hits ≡ a.hits + (b.hits + c.hits) = omega arith in
-    let misses : a.misses + b.misses + c.misses ≡ a.misses + (b.misses + c.misses) = omega arith in
-    let write_backs : a.write_backs + b.write_backs + c.write_backs ≡ a.write_backs + (b.write_backs + c.write_backs) =
-    omega arith in
-    λ i. record {
-      branches = branches i;
-      loads = loads i;
-      drains = drains i;
-      hits = hits i;
-      misses = misses i;
-      write_backs = write_backs i;
-    }
+both-both a b c = grind arith
 
 both-nothing : (a : Events) → both_events a no_events ≡ both_events no_events a
-both-nothing a =
-    let branches : a.branches + 0 ≡ 0 + a.branches = omega arith in
-    let loads : a.loads + 0 ≡ 0 + a.loads = omega arith in
-    let drains : a.drains + 0 ≡ 0 + a.drains = omega arith in
-    let hits : a.hits + 0 ≡ 0 + a.hits = omega arith in
-    let misses : a.misses + 0 ≡ 0 + a.misses = omega arith in
-    let write_backs : a.write_backs + 0 ≡ 0 + a.write_backs = omega arith in
-    λ i. record {
-      branches = branches i;
-      loads = loads i;
-      drains = drains i;
-      hits = hits i;
-      misses = misses i;
-      write_backs = write_backs i;
-    }
+both-nothing a = grind arith
 
 -- what one more cycle did
 events-push : {arrivals : List Arrival} {old now : GuidedHardware} {moments : List Moment} (values : Values)
@@ -91,54 +61,18 @@ none-or-one true = omega arith
 none-or-one false = omega arith
 
 pub steps-few : (costs : LoadCosts) (steps : List Step) → AreAtMost (length steps) (events_of_steps costs steps)
-steps-few costs steps = record {
-  branches = count_by-le-length (happens costs Branch) steps;
-  loads = count_by-le-length (happens costs Load) steps;
-  drains = omega arith;
-  hits = omega (arith, count_by-le-length (happens costs Load) steps);
-  misses = count_by-le-length (happens costs Miss) steps;
-  write_backs = count_by-le-length (happens costs WriteBack) steps;
-}
+steps-few costs steps = grind (arith, count_by-le-length)
 
 pub drain-few : (costs : LoadCosts) (cost : Option ℕ) → AreAtMost 1 (events_of_drain costs cost)
-drain-few costs None =
-    record {
-      branches = omega arith;
-      loads = omega arith;
-      drains = omega arith;
-      hits = omega arith;
-      misses = omega arith;
-      write_backs = omega arith;
-    }
-drain-few costs (Some cost) = record {
-  branches = omega arith;
-  loads = omega arith;
-  drains = omega arith;
-  hits = one-or-none (cost == costs.hit);
-  misses = none-or-one (cost == costs.hit);
-  write_backs = one-or-none (nat_lt costs.clean_miss cost);
-}
+drain-few costs None = grind arith
+drain-few costs (Some cost) = grind (arith, one-or-none, none-or-one)
 
 pub both-few : (some others : Events) (most more : ℕ) → AreAtMost most some → AreAtMost more others →
     AreAtMost (most + more) (both_events some others)
-both-few some others most more few few' = record {
-  branches = omega (arith, few.branches, few'.branches);
-  loads = omega (arith, few.loads, few'.loads);
-  drains = omega (arith, few.drains, few'.drains);
-  hits = omega (arith, few.hits, few'.hits);
-  misses = omega (arith, few.misses, few'.misses);
-  write_backs = omega (arith, few.write_backs, few'.write_backs);
-}
+both-few some others most more few few' = grind arith
 
 pub few-below : (events : Events) (most more : ℕ) → AreAtMost most events → most ≤ more → AreAtMost more events
-few-below events most more few below = record {
-  branches = omega (arith, few.branches, below);
-  loads = omega (arith, few.loads, below);
-  drains = omega (arith, few.drains, below);
-  hits = omega (arith, few.hits, below);
-  misses = omega (arith, few.misses, below);
-  write_backs = omega (arith, few.write_backs, below);
-}
+few-below events most more few below = grind arith
 
 cycle-few : (costs : LoadCosts) (cycle : ℕ) (steps : List Step) (before after : Option ℕ) →
     AreAtMost (length steps + 1) (events_by costs cycle steps before after)
@@ -148,15 +82,7 @@ cycle-few costs cycle steps before after =
     (drain-few costs (begun cycle before after))
 
 none-few : AreAtMost 0 no_events
-none-few =
-    record {
-      branches = omega arith;
-      loads = omega arith;
-      drains = omega arith;
-      hits = omega arith;
-      misses = omega arith;
-      write_backs = omega arith;
-    }
+none-few = grind arith
 
 -- no cycle yet
 pub tallied_nothing : (arrivals : List Arrival) (h : GuidedHardware) (counts : StepCounts) (s : Speculated)
@@ -180,32 +106,17 @@ module _ {seen : Watched} {cycle : ℕ} {steps : List Step} {after : Hardware} {
   pub room_for_steps : HasRoom counts (length steps)
   room_for_steps =
       let so_far = steps_of (reports_of seen.moments) in
-      rw tallied.counted (record {
-        retired = omega (
-          arith,
-          count_by-le-length is_retirement so_far,
-          tallied.steps_few,
-          shown.few,
-          shown.number,
-          shown.counted,
-        );
-        traps = omega (
-          arith,
-          count_by-le-length is_trap so_far,
-          tallied.steps_few,
-          shown.few,
-          shown.number,
-          shown.counted,
-        );
-        interrupts = omega (
-          arith,
-          count_by-le-length is_interrupt so_far,
-          tallied.steps_few,
-          shown.few,
-          shown.number,
-          shown.counted,
-        );
-      })
+      let few : (test : Step → Bool) → count_by test so_far + length steps < 2 ^ 64 =
+      λ test. omega (
+        arith,
+        count_by-le-length test so_far,
+        tallied.steps_few,
+        shown.few,
+        shown.number,
+        shown.counted,
+      ) in
+      rw tallied.counted
+      (record { retired = few is_retirement; traps = few is_trap; interrupts = few is_interrupt })
 
   pub room_for_events : AreAtMost (2 ^ 62) events.counts
   room_for_events = few-below events.counts (9 * seen.now.hardware.cycle) (2 ^ 62) tallied.events_few
