@@ -26,6 +26,13 @@ const MACROS: &str = "\nhint: there are no macros and no conditions: the lines s
 
 const TWO_WORDS: &str = "\nnearest: .word\nhint: two words, the lower one first\n";
 
+const NO_FLOAT: &str = "\nhint: the machine has no floating point\n";
+
+const BRANCHES: &str = "\nhint: a branch compares two registers itself, as in beq a0, a1, loop\n";
+
+const SETS: &str =
+    "\nhint: the machine has the base instructions, M, Zicsr, Zifencei, and three of Zba\n";
+
 const NOTHING: &str =
     "\nhint: no operand stands after the last comma; what stands after # is a comment\n";
 
@@ -88,7 +95,7 @@ static BYTES: [(&str, &str); 31] = [
 ];
 
 // Statements of other assemblers and machines, and what to write instead.
-static COUNTERPARTS: [(&str, &str); 74] = [
+static COUNTERPARTS: [(&str, &str); 101] = [
     ("b f", "\nnearest: j\n"),
     ("jmp f", "\nnearest: j\n"),
     ("br f", "\nnearest: j\n"),
@@ -163,10 +170,37 @@ static COUNTERPARTS: [(&str, &str); 74] = [
     (".if 1", MACROS),
     (".include \"a\"", MACROS),
     (".endm", MACROS),
+    (".endr", MACROS),
+    (".else", MACROS),
+    (".endif", MACROS),
+    (".double 1", NO_FLOAT),
+    ("flw fa0, 0(a1)", NO_FLOAT),
+    ("fsw fa0, 0(a1)", NO_FLOAT),
+    ("fld fa0, 0(a1)", NO_FLOAT),
+    ("tst a0, a1", BRANCHES),
+    ("tbz a0, 3, f", BRANCHES),
+    ("tbnz a0, 3, f", BRANCHES),
+    ("je f", BRANCHES),
+    ("jz f", BRANCHES),
+    ("jne f", BRANCHES),
+    ("jnz f", BRANCHES),
+    ("jg f", BRANCHES),
+    ("jge f", BRANCHES),
+    ("jl f", BRANCHES),
+    ("minu a0, a1, a2", SETS),
+    ("max a0, a1, a2", SETS),
+    ("maxu a0, a1, a2", SETS),
+    ("abs a0, a1", SETS),
+    ("rol a0, a1, a2", SETS),
+    ("ror a0, a1, a2", SETS),
+    ("clz a0, a1", SETS),
+    ("ctz a0, a1", SETS),
+    ("cpop a0, a1", SETS),
+    ("lr.w a0, (a1)", SETS),
 ];
 
 // Directives that say nothing to this machine.
-static IDLE: [&str; 9] = [
+static IDLE: [&str; 11] = [
     ".option norvc",
     ".size f, 4",
     ".file \"a.c\"",
@@ -176,6 +210,8 @@ static IDLE: [&str; 9] = [
     ".weak f",
     ".local f",
     ".loc 1 1",
+    ".extern f",
+    ".cfi_startproc",
 ];
 
 // Names that read as labels, and others that do not.
