@@ -54,7 +54,7 @@ const ADDRESS: &str =
     "\nhint: an address is in a register: la t0, symbol loads it, and 0(t0) is the word there\n";
 
 // Lines with bytes that are no token, and what to write instead.
-static BYTES: [(&str, &str); 31] = [
+static BYTES: [(&str, &str); 32] = [
     ("nop // again", COMMENT),
     ("nop ; nop", COMMENT),
     ("li a0, 'A'", CHARACTER),
@@ -69,6 +69,7 @@ static BYTES: [(&str, &str); 31] = [
     ("li a0, !6", SUM),
     ("%%\na = 5", CONSTANT),
     ("%%\nrob = 5", CONSTANT),
+    (".set a = 5", CONSTANT),
     ("lw a0, [sp]", OFFSET),
     ("lw a0, {sp}", OFFSET),
     (
@@ -245,7 +246,7 @@ static LABELS: [(&str, &str); 8] = [
 ];
 
 // Statements with other operands, and what to write instead.
-static OPERANDS: [(&str, &str); 63] = [
+static OPERANDS: [(&str, &str); 84] = [
     (
         "addi a0, a1, a2",
         "\nhint: a2 is a register, and a symbol or a number stands here\n",
@@ -295,6 +296,10 @@ static OPERANDS: [(&str, &str); 63] = [
     ),
     ("csrw mscratch, 5", "\nhint: with a number it is csrwi\n"),
     ("csrrc a0, mie, 5", "\nhint: with a number it is csrrci\n"),
+    ("csrs mie, 5", "\nhint: with a number it is csrsi\n"),
+    ("csrc mie, 5", "\nhint: with a number it is csrci\n"),
+    ("csrrw a0, mie, 5", "\nhint: with a number it is csrrwi\n"),
+    ("csrrs a0, mie, 5", "\nhint: with a number it is csrrsi\n"),
     (
         "beq a0, a1, 8",
         "\nexpected: beq rs1, rs2, symbol, as in 'beq x6, x7, loop'\n",
@@ -304,10 +309,23 @@ static OPERANDS: [(&str, &str); 63] = [
         "\nexpected: sw rs2, offset(rs1), as in 'sw x7, 8(x6)'\n",
     ),
     ("bleu a0, -5, f", LOADED),
+    ("bne -5, a1, f", LOADED),
+    ("blt -5, a1, f", LOADED),
+    ("bge -5, a1, f", LOADED),
+    ("bltu -5, a1, f", LOADED),
+    ("bgeu -5, a1, f", LOADED),
+    ("bgt -5, a1, f", LOADED),
+    ("ble -5, a1, f", LOADED),
+    ("bgtu -5, a1, f", LOADED),
+    ("sh 5, 0(a1)", LOADED),
     ("sb 5, 0(a1)", LOADED),
     ("lw (sp), a0", TURNED),
     (
         "jalr done",
+        "\nhint: jr and jalr take a register, and j, jal and call a symbol\n",
+    ),
+    (
+        "jr done",
         "\nhint: jr and jalr take a register, and j, jal and call a symbol\n",
     ),
     (
@@ -324,7 +342,14 @@ static OPERANDS: [(&str, &str); 63] = [
     ("mret x", ALONE),
     ("wfi wfi", ALONE),
     ("fence.i rw", ALONE),
+    ("fence rw", ALONE),
     ("mul a0, a1, 3", REGISTERS),
+    ("mulh a0, a1, 3", REGISTERS),
+    ("mulhsu a0, a1, 3", REGISTERS),
+    ("mulhu a0, a1, 3", REGISTERS),
+    ("div a0, a1, 3", REGISTERS),
+    ("divu a0, a1, 3", REGISTERS),
+    ("rem a0, a1, 3", REGISTERS),
     ("remu a0, a1, -3", REGISTERS),
     (
         "sltu a0, a1, 5",
