@@ -26,6 +26,13 @@ const MACROS: &str = "\nhint: there are no macros and no conditions: the lines s
 
 const TWO_WORDS: &str = "\nnearest: .word\nhint: two words, the lower one first\n";
 
+const NO_FLOAT: &str = "\nhint: the machine has no floating point\n";
+
+const BRANCHES: &str = "\nhint: a branch compares two registers itself, as in beq a0, a1, loop\n";
+
+const SETS: &str =
+    "\nhint: the machine has the base instructions, M, Zicsr, Zifencei, and three of Zba\n";
+
 const NOTHING: &str =
     "\nhint: no operand stands after the last comma; what stands after # is a comment\n";
 
@@ -47,7 +54,7 @@ const ADDRESS: &str =
     "\nhint: an address is in a register: la t0, symbol loads it, and 0(t0) is the word there\n";
 
 // Lines with bytes that are no token, and what to write instead.
-static BYTES: [(&str, &str); 31] = [
+static BYTES: [(&str, &str); 32] = [
     ("nop // again", COMMENT),
     ("nop ; nop", COMMENT),
     ("li a0, 'A'", CHARACTER),
@@ -62,6 +69,7 @@ static BYTES: [(&str, &str); 31] = [
     ("li a0, !6", SUM),
     ("%%\na = 5", CONSTANT),
     ("%%\nrob = 5", CONSTANT),
+    (".set a = 5", CONSTANT),
     ("lw a0, [sp]", OFFSET),
     ("lw a0, {sp}", OFFSET),
     (
@@ -88,7 +96,7 @@ static BYTES: [(&str, &str); 31] = [
 ];
 
 // Statements of other assemblers and machines, and what to write instead.
-static COUNTERPARTS: [(&str, &str); 74] = [
+static COUNTERPARTS: [(&str, &str); 101] = [
     ("b f", "\nnearest: j\n"),
     ("jmp f", "\nnearest: j\n"),
     ("br f", "\nnearest: j\n"),
@@ -163,10 +171,37 @@ static COUNTERPARTS: [(&str, &str); 74] = [
     (".if 1", MACROS),
     (".include \"a\"", MACROS),
     (".endm", MACROS),
+    (".endr", MACROS),
+    (".else", MACROS),
+    (".endif", MACROS),
+    (".double 1", NO_FLOAT),
+    ("flw fa0, 0(a1)", NO_FLOAT),
+    ("fsw fa0, 0(a1)", NO_FLOAT),
+    ("fld fa0, 0(a1)", NO_FLOAT),
+    ("tst a0, a1", BRANCHES),
+    ("tbz a0, 3, f", BRANCHES),
+    ("tbnz a0, 3, f", BRANCHES),
+    ("je f", BRANCHES),
+    ("jz f", BRANCHES),
+    ("jne f", BRANCHES),
+    ("jnz f", BRANCHES),
+    ("jg f", BRANCHES),
+    ("jge f", BRANCHES),
+    ("jl f", BRANCHES),
+    ("minu a0, a1, a2", SETS),
+    ("max a0, a1, a2", SETS),
+    ("maxu a0, a1, a2", SETS),
+    ("abs a0, a1", SETS),
+    ("rol a0, a1, a2", SETS),
+    ("ror a0, a1, a2", SETS),
+    ("clz a0, a1", SETS),
+    ("ctz a0, a1", SETS),
+    ("cpop a0, a1", SETS),
+    ("lr.w a0, (a1)", SETS),
 ];
 
 // Directives that say nothing to this machine.
-static IDLE: [&str; 9] = [
+static IDLE: [&str; 11] = [
     ".option norvc",
     ".size f, 4",
     ".file \"a.c\"",
@@ -176,6 +211,8 @@ static IDLE: [&str; 9] = [
     ".weak f",
     ".local f",
     ".loc 1 1",
+    ".extern f",
+    ".cfi_startproc",
 ];
 
 // Names that read as labels, and others that do not.
@@ -209,7 +246,7 @@ static LABELS: [(&str, &str); 8] = [
 ];
 
 // Statements with other operands, and what to write instead.
-static OPERANDS: [(&str, &str); 63] = [
+static OPERANDS: [(&str, &str); 84] = [
     (
         "addi a0, a1, a2",
         "\nhint: a2 is a register, and a symbol or a number stands here\n",
@@ -259,6 +296,10 @@ static OPERANDS: [(&str, &str); 63] = [
     ),
     ("csrw mscratch, 5", "\nhint: with a number it is csrwi\n"),
     ("csrrc a0, mie, 5", "\nhint: with a number it is csrrci\n"),
+    ("csrs mie, 5", "\nhint: with a number it is csrsi\n"),
+    ("csrc mie, 5", "\nhint: with a number it is csrci\n"),
+    ("csrrw a0, mie, 5", "\nhint: with a number it is csrrwi\n"),
+    ("csrrs a0, mie, 5", "\nhint: with a number it is csrrsi\n"),
     (
         "beq a0, a1, 8",
         "\nexpected: beq rs1, rs2, symbol, as in 'beq x6, x7, loop'\n",
@@ -268,10 +309,23 @@ static OPERANDS: [(&str, &str); 63] = [
         "\nexpected: sw rs2, offset(rs1), as in 'sw x7, 8(x6)'\n",
     ),
     ("bleu a0, -5, f", LOADED),
+    ("bne -5, a1, f", LOADED),
+    ("blt -5, a1, f", LOADED),
+    ("bge -5, a1, f", LOADED),
+    ("bltu -5, a1, f", LOADED),
+    ("bgeu -5, a1, f", LOADED),
+    ("bgt -5, a1, f", LOADED),
+    ("ble -5, a1, f", LOADED),
+    ("bgtu -5, a1, f", LOADED),
+    ("sh 5, 0(a1)", LOADED),
     ("sb 5, 0(a1)", LOADED),
     ("lw (sp), a0", TURNED),
     (
         "jalr done",
+        "\nhint: jr and jalr take a register, and j, jal and call a symbol\n",
+    ),
+    (
+        "jr done",
         "\nhint: jr and jalr take a register, and j, jal and call a symbol\n",
     ),
     (
@@ -288,7 +342,14 @@ static OPERANDS: [(&str, &str); 63] = [
     ("mret x", ALONE),
     ("wfi wfi", ALONE),
     ("fence.i rw", ALONE),
+    ("fence rw", ALONE),
     ("mul a0, a1, 3", REGISTERS),
+    ("mulh a0, a1, 3", REGISTERS),
+    ("mulhsu a0, a1, 3", REGISTERS),
+    ("mulhu a0, a1, 3", REGISTERS),
+    ("div a0, a1, 3", REGISTERS),
+    ("divu a0, a1, 3", REGISTERS),
+    ("rem a0, a1, 3", REGISTERS),
     ("remu a0, a1, -3", REGISTERS),
     (
         "sltu a0, a1, 5",
