@@ -97,13 +97,7 @@ module _ (cycle : ℕ) where
 
   ends_unstaying : (number : ℕ) (older ps : List Passage) (es : List Entry) (ws : List Fetched) →
       EndsUnstaying (all_moved number older ps es ws) (length ws)
-  ends_unstaying number older ps [] ws = record {
-    front = [];
-    back = words_moved number older ps ws;
-    rows_are = refl;
-    many = words_among number older ps ws;
-    unstaying = words_unstaying number older ps ws;
-  }
+  ends_unstaying number older ps [] ws = grind (arith, words_among, words_unstaying)
   ends_unstaying number older [] (e ∷ es) ws =
       older_first (numbered number (of_entry e)) (ends_unstaying (number + 1) older [] es ws)
   ends_unstaying number older (p ∷ ps) (e ∷ es) ws = elim (cases_Bool (is_in_flight p)) [
@@ -134,11 +128,7 @@ module _ (cycle : ℕ) where
 
   last_unstaying : (rows : List Passage) (count : ℕ) →
       EndsUnstaying rows count → none_stay (drop (length rows - count) rows)
-  last_unstaying rows count ends =
-      let long = ap length ends.rows_are ∙ length-append ends.front ends.back in
-      let past : length ends.front ≤ length rows - count = omega (arith, long, ends.many) in
-      subst (λ l. none_stay (drop (length rows - count) l)) (sym ends.rows_are)
-      (none_stay-after ends.front ends.back (length rows - count) past ends.unstaying)
+  last_unstaying rows count ends = grind (arith, length-append, none_stay-after)
 
 -- the passages at the end of a cycle are such
 pub at_end : (cycle : ℕ) (steps : List Step) (after : Hardware) (before : Passages) →
@@ -204,16 +194,12 @@ module _ (cycle : ℕ) (unit : Bool) where
     -- they add nothing to why instructions stay
     pub stays_of_first : (s : Stays) →
         with_stays (stays_among cycle unit true first) s ≡ with_stays (stays_among cycle unit true rows) s
-    stays_of_first s =
-        sym (stays_before true first others s end.waiting)
-        ∙ ap (λ l. with_stays (stays_among cycle unit true l) s) apart
+    stays_of_first s = grind (arith, stays_before, apart)
 
     -- nor to what the oldest awaits
     pub oldest_of_first :
         oldest_awaited (stays_among cycle unit true first) ≡ oldest_awaited (stays_among cycle unit true rows)
-    oldest_of_first =
-        sym (oldest_before true first others end.waiting)
-        ∙ ap (λ l. oldest_awaited (stays_among cycle unit true l)) apart
+    oldest_of_first = grind (arith, oldest_before, apart)
 
 -- ---- where the first ones left, as many as are not in flight, all others are
 
@@ -230,10 +216,7 @@ LeftAt ps place none = MatchOption (slice_get ps place) none (λ p. is_in_flight
 
 last_left : (none : Type 0) (p : Passage) (ps : List Passage) →
     list_all has_left (p ∷ ps) ≡ true → LeftAt (p ∷ ps) (length ps) none
-last_left none p [] all = elim (cases_Bool (is_in_flight p)) [
-  | inl flies ↦ let no : false ≡ true = rw flies at all in cc
-  | inr ended ↦ ended
-]
+last_left none p [] all = grind (arith, cases_Bool)
 last_left none p (q ∷ ps) all = elim (cases_Bool (is_in_flight p)) [
   | inl flies ↦ let no : false ≡ true = rw flies at all in cc
   | inr ended ↦ let rest : list_all has_left (q ∷ ps) ≡ true = rw ended at all in last_left none q ps rest

@@ -28,14 +28,7 @@ module _ {arrivals : List Arrival} {limit : ℕ} {values : Values} {old new : Gu
   pub explained : (figures : Figures) (path : Option Accounted) (listing : Listed) →
       IsExplanation arrivals limit figures values path listing old new run.stop
       (explanation figures path listing new.hardware run)
-  explained figures path listing = record {
-    moments = tallied.moments;
-    run = tallied.run;
-    text_is = ap (explanation figures path listing new.hardware) tallied.kept;
-    places_add_up = tallied.places_add_up;
-    places_are_lost_for = tallied.places_are_lost_for;
-    stays_add_up = tallied.stays_add_up;
-  }
+  explained figures path listing = grind arith
 
   -- no more is noted at the words of RAM than there was of what is noted
   noted_few : {X : Type 0} (place : X → Option ℕ) (all : List X) (noted most : Tallied → ℕ) →

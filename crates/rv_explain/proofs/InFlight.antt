@@ -1,14 +1,12 @@
 -- An instruction in flight adds nothing to what is kept of a run.
-use Rattle.std.proofs.Common.{◌≡◌, ◌∙◌, ℕ, suc, Bool, true, false, cond, is_some, List}
-use Rattle.std.proofs.Common.{[], ◌∷◌, ◌++◌, Option, None, refl, sym, ap, arith, count_by}
+use Rattle.std.proofs.Common.{◌≡◌, ◌∙◌, ℕ, suc, Bool, true, false, cond, List, [], ◌∷◌, ◌++◌, Option, None, refl, sym}
+use Rattle.std.proofs.Common.{ap, arith, count_by}
 use Rattle.std.proofs.lemmas.Bool.{false≢true}
 use Rattle.std.proofs.lemmas.List.Sums.{sum_by-append}
 use Rattle.std.specs.List.{AllPass}
 use Rattle.rv_passage.specs.Left.{IsUpToYoungestLeft}
 use Rattle.rv_passage.specs.Passage.{is_in_flight, is_retirement, is_running}
 use Rattle.rv_passage.specs.declared.passage.{Ending.Ending, Passage.Passage}
-use Rattle.rv_passage.specs.declared.passage.Ending.TheVariants as ending
-use Rattle.rv_counts.specs.Load.{is_hit}
 use Rattle.rv_counts.specs.declared.loads.LoadCosts.{LoadCosts}
 use Rattle.rv_counts.proofs.Mispredicted.{unretired-right}
 use Rattle.rv_sentences.specs.Load.{loads_of, retired_load_cost}
@@ -19,10 +17,7 @@ use Rattle.rv_sentences.specs.declared.work.Class.TheVariants.{Branch, Mispredic
 
 -- it did not retire
 running : (e : Ending) → is_running e ≡ true → is_retirement e ≡ false
-running ending.InFlight flies = refl
-running (ending.Retired order cycle written next) flies = absurd (false≢true flies)
-running (ending.Trapped cycle cause) flies = refl
-running (ending.Squashed cycle) flies = refl
+running e flies = grind (arith, false≢true)
 
 unretired : (p : Passage) → is_in_flight p ≡ true → is_retirement p.ending ≡ false
 unretired p flies = running p.ending flies
@@ -75,9 +70,4 @@ module _ (place : Passage → Option ℕ) (fails : (p : Passage) → is_in_fligh
 -- and so are the loads
 pub loads_same : (costs : LoadCosts) (rows kept : List Passage) → IsUpToYoungestLeft rows kept →
     loads_of costs kept ≡ loads_of costs rows
-loads_same costs rows kept up =
-    let all = counted_same (λ p. is_some (retired_load_cost p))
-    (λ p flies. ap is_some (no_load p flies)) rows kept up in
-    let quick = counted_same (λ p. is_hit costs (retired_load_cost p))
-    (λ p flies. ap (is_hit costs) (no_load p flies)) rows kept up in
-    λ i. record { all = all i; quick = quick i }
+loads_same costs rows kept up = grind (arith, counted_same, no_load)

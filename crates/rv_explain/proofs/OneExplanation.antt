@@ -1,11 +1,11 @@
 -- Of hardware that a described predictor guides there is one explanation.
-use Rattle.std.proofs.Common.{◌∙◌, ℕ, List, Option, sym}
+use Rattle.std.proofs.Common.{ℕ, List, Option, arith}
 use Rattle.rv_isa.specs.declared.{lines.Arrival.Arrival, values.Values.Values}
 use Rattle.rv_passage.proofs.OneRun.{one_run}
 use Rattle.rv_causes.specs.Account.{Accounted}
 use Rattle.rv_source.specs.Listing.{Listed}
 use Rattle.rv_explain.specs.declared.figures.Figures.{Figures}
-use Rattle.rv_explain.specs.Explanation.{IsExplanation, explanation, tallied_of}
+use Rattle.rv_explain.specs.Explanation.{IsExplanation}
 use Rattle.rv_view.specs.Run.{HasOneText}
 
 -- of a run of described hardware there is one explanation
@@ -13,8 +13,4 @@ pub one_explanation : (arrivals : List Arrival) (limit : ℕ) (figures : Figures
     (path : Option Accounted) (listing : Listed) →
     HasOneText limit (IsExplanation arrivals limit figures values path listing)
 one_explanation arrivals limit figures values path listing h predictor new new' stop stop' text text' within is is' =
-    let same = one_run within is.run is'.run in (
-      same.reasons,
-      is.text_is ∙ (λ i. explanation figures path listing (same.ends i).hardware
-          (tallied_of values arrivals h (same.moments_are i) (same.reasons i))) ∙ sym is'.text_is,
-    )
+    grind (arith, one_run)

@@ -1,6 +1,6 @@
 -- What is kept of a run, with one cycle more.
 use Rattle.std.proofs.Common.{◌≡◌, ◌∙◌, ℕ, ◌+◌, ◌*◌, ◌^◌, ◌≤◌, ◌==◌, List, [], ◌∷◌, ◌++◌, length, count_by, filter}
-use Rattle.std.proofs.Common.{Option, Some, None, cond, Bool, true, false, refl, sym, ap, arith, append-nil}
+use Rattle.std.proofs.Common.{Option, Some, None, cond, refl, sym, ap, arith, append-nil}
 use Rattle.std.specs.Prelude.{is_some}
 use Rattle.std.specs.List.{cons_option, filter_map}
 use Rattle.std.specs.Option.{option_to_list}
@@ -14,7 +14,6 @@ use Rattle.rv_hardware.specs.Hardware.{Hardware}
 use Rattle.rv_hardware.specs.Run.{steps_of}
 use Rattle.rv_hardware.specs.Step.{is_retirement}
 use Rattle.rv_hardware.specs.declared.step.Step.{Step}
-use Rattle.rv_hardware.specs.declared.step.Step.TheVariants.{Retired, Trap, Interrupt}
 use Rattle.rv_passage.specs.Passage.{is_squash}
 use Rattle.rv_passage.specs.Prediction.{is_mispredicted}
 use Rattle.rv_passage.specs.Table.{still_open}
@@ -22,7 +21,7 @@ use Rattle.rv_passage.specs.declared.passage.Passage.{Passage}
 use Rattle.rv_passage.proofs.Walk.{last_cycle}
 use Rattle.rv_counts.specs.Load.{costs_of, is_hit}
 use Rattle.rv_counts.specs.Passing.{has_left}
-use Rattle.rv_sentences.specs.Dispatch.{dispatched_after, dispatched_with, is_last, none_dispatched, with_cycle}
+use Rattle.rv_sentences.specs.Dispatch.{dispatched_after, dispatched_with, none_dispatched, with_cycle}
 use Rattle.rv_sentences.specs.Drain.{drain_in, drains_by, drains_of}
 use Rattle.rv_sentences.specs.Exception.{exception_of_cycle, exceptions_of}
 use Rattle.rv_sentences.specs.Head.{accounts_of, is_idle, itself}
@@ -65,9 +64,7 @@ kept_after-push es (Some e) = kept-push e es
 exceptions-push : (moments : List Moment) (moment : Moment) →
     kept_after (exception_of_cycle moment) (kept_of (exceptions_of moments))
     ≡ kept_of (exceptions_of (moments ++ moment ∷ []))
-exceptions-push moments moment =
-    kept_after-push (exceptions_of moments) (exception_of_cycle moment)
-    ∙ sym (ap kept_of (filter_map-append exception_of_cycle moments (moment ∷ [])))
+exceptions-push moments moment = grind (arith, kept_after-push, filter_map-append)
 
 interrupts_after-push : (is : List Interruption) (o : Option Interruption) → interrupts_after o (by_line is)
     ≡ by_line (is ++ cons_option o [])
@@ -77,9 +74,7 @@ interrupts_after-push is (Some i) = sym (by_line-push is i)
 interrupts-push : (moments : List Moment) (moment : Moment) →
     interrupts_after (interruption_of_cycle moment) (by_line (interruptions_of moments))
     ≡ by_line (interruptions_of (moments ++ moment ∷ []))
-interrupts-push moments moment =
-    interrupts_after-push (interruptions_of moments) (interruption_of_cycle moment)
-    ∙ sym (ap by_line (filter_map-append interruption_of_cycle moments (moment ∷ [])))
+interrupts-push moments moment = grind (arith, interrupts_after-push, filter_map-append)
 
 cons_option-le : {Y : Type 0} (o : Option Y) (ys : List Y) → length (cons_option o ys) ≤ length ys + 1
 cons_option-le None ys = omega arith
@@ -97,15 +92,10 @@ dispatched_after-append (step ∷ some) more d = dispatched_after-append some mo
 
 -- a step brings one cycle at most
 with_cycle-le : (cycle : ℕ) (d : Dispatches) → (with_cycle cycle d).cycles ≤ d.cycles + 1
-with_cycle-le cycle d = by_last (is_last d.last cycle) where
-  by_last : (last : Bool) → (cond last d (record { cycles = d.cycles + 1; last = Some cycle })).cycles ≤ d.cycles + 1
-  by_last true = omega arith
-  by_last false = omega arith
+with_cycle-le cycle d = grind arith
 
 dispatched_with-le : (step : Step) (d : Dispatches) → (dispatched_with step d).cycles ≤ d.cycles + 1
-dispatched_with-le (Retired row) d = with_cycle-le row.dispatched d
-dispatched_with-le (Trap pc cause value cycle) d = omega arith
-dispatched_with-le (Interrupt pc cause cycle) d = omega arith
+dispatched_with-le step d = grind (arith, with_cycle-le)
 
 dispatched_after-le : (steps : List Step) (d : Dispatches) → (dispatched_after steps d).cycles ≤ d.cycles + length steps
 dispatched_after-le [] d = omega arith

@@ -196,11 +196,7 @@ module _ {arrivals : List Arrival} {old new : GuidedHardware} {moments : List Mo
       progress ≡ progress_of (reports_of moments)
       → new.hardware.cycle ≤ 2 ^ 40 → Reachable new.hardware →
       progress.cycles * new.hardware.values.dispatch_width < 2 ^ 64
-  places_of_all {progress = progress} run counted within reached =
-      let few : progress.cycles ≤ 2 ^ 40 =
-      omega (arith, ap (λ (p : Progress). p.cycles) counted, moments_counted run.passes, within) in
-      let wide : new.hardware.values.dispatch_width ≤ 8 = (sound reached).sizes.legal.pipeline.dispatch_width.1 in
-      omega (arith, mul-le progress.cycles new.hardware.values.dispatch_width (2 ^ 40) 8 few wide)
+  places_of_all {progress = progress} run counted within reached = grind (arith, moments_counted, sound, mul-le)
 
   -- all that was fetched can be counted
   pub fetched_counted : (rows : List Passage) → rows ≡ (passages_of table).rows → new.hardware.cycle ≤ 2 ^ 40 →

@@ -3,6 +3,4 @@ use Rattle.rv_hardware.proofs.Always.Sound.{sound}
 use Rattle.rv_explain.proofs.cycle_places.in_flight.Goals as goal
 
 pub returns-clause-few : goal.returns-clause-few
-returns-clause-few c =
-    let sizes = (sound c.hardware.invariant.reached).sizes in
-    omega (arith, c.len.ensures.within, sizes.buffer, sizes.legal.pipeline.rob.1)
+returns-clause-few c = grind (arith, sound)

@@ -10,19 +10,10 @@ pub write_run_text-written-requires : goal.write_run_text-written-requires
 write_run_text-written-requires g c = rw c.shown.ensures (can_be_written c.run_tallied-tallied.ensures (omega arith))
 
 pub returns-in-Ok-written-clause-written : goal.returns-in-Ok-written-clause-written
-returns-in-Ok-written-clause-written g c = (
-  _,
-  explained c.run_tallied-tallied.ensures c.args.figures _ c.args.listing.now,
-  rw c.shown.ensures at c.in-Ok-written.ensures,
-)
+returns-in-Ok-written-clause-written g c = grind (arith, explained)
 
 pub returns-in-Err-WriteFailed-clause-written : goal.returns-in-Err-WriteFailed-clause-written
-returns-in-Err-WriteFailed-clause-written g c = (
-  _,
-  _,
-  explained c.run_tallied-tallied.ensures c.args.figures _ c.args.listing.now,
-  rw c.shown.ensures at c.in-Err-WriteFailed.ensures,
-)
+returns-in-Err-WriteFailed-clause-written g c = grind (arith, explained)
 
 -- whatever was written
 pub returns-in_default-clause-one_explanation : goal.returns-in_default-clause-one_explanation

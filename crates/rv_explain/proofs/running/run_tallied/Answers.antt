@@ -17,13 +17,7 @@ run_view-view-requires-clause-ready g c =
     c.in_flight-in_flight.ensures.few
 
 pub overflow_add-fetched : goal.overflow_add-fetched
-overflow_add-fetched g c =
-    let run = c.run_view-view.ensures in
-    omega (
-      arith,
-      fetched_counted run.viewed.sees run.viewed.kept c.rows.result.now c.rows.ensures
-          c.is_exhausted.ensures.within,
-    )
+overflow_add-fetched g c = grind (arith, fetched_counted)
 
 pub returns : goal.returns
 returns g c =

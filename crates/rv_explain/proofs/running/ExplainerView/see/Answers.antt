@@ -14,12 +14,7 @@ add-requires g c =
     }
 
 pub returns-clause-seen : goal.returns-clause-seen
-returns-clause-seen g c start seen next tallying =
-    tallied_on next tallying c.begun-drain.result c.add.new.self c.observe-after.result.regs
-    c.drain_end-drain_end.result c.in_flight-self.result c.cycle_places-places.result
-    c.observe-observed.result.lines c.observe-observed.ensures.lines c.cycle_places-places.ensures c.begun-drain.ensures
-    c.add.ensures c.observe-after.ensures.registers c.drain_end-drain_end.ensures
-    c.in_flight-self.ensures.counted c.in_flight-self.ensures.few
+returns-clause-seen g c start seen next tallying = grind (arith, tallied_on)
 
 pub returns-clause-said : goal.returns-clause-said
 returns-clause-said g c start seen next tallying = ([], says_nothing _, refl)
