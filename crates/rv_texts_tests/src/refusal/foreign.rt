@@ -2,7 +2,7 @@ use crate::refusal::{Refused, check_whole};
 use std::test::Fail;
 
 // Jobs as other assemblers, machines and editors have them, and some that are wrong in the same way at first.
-static FOREIGN: [Refused; 28] = [
+static FOREIGN: [Refused; 31] = [
     Refused {
         job: b"[cache]\nsize = 1024\n%%\nebreak\n",
         why: b"\
@@ -51,6 +51,36 @@ line 1 of the job, line 1 of its assembly: BadToken
     ^
 expected: names, numbers up to 4294967295, strings that end on their line, and the marks , : ( ) + -
 hint: this text is UTF-16: save it as ASCII, or as UTF-8 without a byte order mark
+",
+    },
+    Refused {
+        job: b"\xff\xff",
+        why: b"\
+line 1 of the job, line 1 of its assembly: BadToken
+    ??
+    ^
+expected: names, numbers up to 4294967295, strings that end on their line, and the marks , : ( ) + -
+hint: this byte is not ASCII, as a blank, a quote or a minus of a word processor is none
+",
+    },
+    Refused {
+        job: b"\xfe\xfe",
+        why: b"\
+line 1 of the job, line 1 of its assembly: BadToken
+    ??
+    ^
+expected: names, numbers up to 4294967295, strings that end on their line, and the marks , : ( ) + -
+hint: this byte is not ASCII, as a blank, a quote or a minus of a word processor is none
+",
+    },
+    Refused {
+        job: b"\x80",
+        why: b"\
+line 1 of the job, line 1 of its assembly: BadToken
+    ?
+    ^
+expected: names, numbers up to 4294967295, strings that end on their line, and the marks , : ( ) + -
+hint: this byte is not ASCII, as a blank, a quote or a minus of a word processor is none
 ",
     },
     Refused {
