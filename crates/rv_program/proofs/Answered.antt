@@ -1,22 +1,18 @@
 -- What is answered after a text that was written, or was not.
-use Rattle.std.proofs.Common.{◌≡◌, ℕ, List, Option, None, Some, refl, sym, subst}
-use Rattle.std.specs.Prelude.{IsErrAnd, Result, Ok, Err}
+use Rattle.std.proofs.Common.{◌≡◌, ℕ, List, Option, None, Some, refl, sym, subst, arith}
+use Rattle.std.specs.Prelude.{IsErrAnd, Result, Err}
 use Rattle.std.specs.Io.KnownBytes.{Keeps}
 use Rattle.rv_job.proofs.HandedOn.{handed_on}
 use Rattle.rv_job.specs.declared.errors.SimError.{SimError}
 use Rattle.rv_text.specs.IsText.{IsText}
 use Rattle.rv_text.specs.declared.output.TextError.{TextError}
-use Rattle.rv_text.specs.declared.output.TextError.TheVariants.{Memory, WriteFailed}
 use Rattle.rv_program.specs.Answer.{IsAnswer, answered}
 
 -- what is written of a run is answered of its job, by the program's errors
 of_job : {T : Type 0} (Is IsOfJob : T → List ℕ → Type 0) (written : Result T TextError) (old new : Option (List ℕ))
     → ((answer : T) (text : List ℕ) → Is answer text → IsOfJob answer text) → IsText Is written old new →
     IsAnswer IsOfJob (answered written) old new
-of_job Is IsOfJob (Ok answer) old new means (text, is, appended) = (text, means answer text is, appended)
-of_job Is IsOfJob (Err WriteFailed) old new means (answer, text, is, beginning) =
-    (answer, text, means answer text is, beginning)
-of_job Is IsOfJob (Err Memory) old new means nothing = nothing
+of_job Is IsOfJob written old new means is = grind arith
 
 answered_by : {T : Type 0} (Is IsOfJob : T → List ℕ → Type 0) (written : Result T TextError)
     (result : Result T SimError) (old new : Option (List ℕ))

@@ -17,9 +17,7 @@ use Rattle.rv_program.specs.Comparison.{AreRuns, IsComparisonTable, IsRun}
 pub runs_from : {arrivals : List Arrival} {options : TableOptions} {run : ComparedRun} {h h' : Hardware} {predictor
     predictor' : Guide} → h ≡ h' → predictor ≡ predictor'
     → RunsTo arrivals options (guided h predictor) run → RunsTo arrivals options (guided h' predictor') run
-runs_from {arrivals} {options} {run} {h' = h'} {predictor = predictor} same known runs =
-    subst (λ p. RunsTo arrivals options (guided h' p) run) known
-    (subst (λ h. RunsTo arrivals options (guided h predictor) run) same runs)
+runs_from {arrivals} {options} {run} {h' = h'} {predictor = predictor} same known runs = grind arith
 
 -- one more run
 pub run_more : (options : TableOptions) (jobs : List Job) (place : ℕ) → place < length jobs →
@@ -42,9 +40,4 @@ pub table_made : (comparison : Comparison) (options : TableOptions) (jobs : List
     (names : List (Vec ℕ)) → jobs ≡ comparison.jobs.items → rows ≡ runs → names ≡ comparison.names.items →
     AreRuns options jobs runs
     → IsComparisonTable comparison options (table_of options.shown (map (λ name. name.items) names) rows)
-table_made comparison options jobs runs rows names jobs_are rows_are names_are done =
-    record {
-      runs = runs;
-      done = subst (λ l. AreRuns options l runs) jobs_are done;
-      text_is = λ i. table_of options.shown (map (λ name. name.items) (names_are i)) (rows_are i);
-    }
+table_made comparison options jobs runs rows names jobs_are rows_are names_are done = grind arith

@@ -1,10 +1,10 @@
 -- How a task ends.
-use Rattle.std.proofs.Common.{◌≡◌, ℕ, List, Option, Some, inr, refl, subst, sym}
-use Rattle.std.specs.Prelude.{Err, Ok, Result}
+use Rattle.std.proofs.Common.{◌≡◌, ℕ, List, Option, Some, inr, refl, subst, arith}
+use Rattle.std.specs.Prelude.{Err, Result}
 use Rattle.rv_front.specs.Guide.{Guide}
 use Rattle.rv_job.specs.FaultStream.{FaultStream}
 use Rattle.rv_job.specs.declared.errors.SimError.{SimError}
-use Rattle.rv_job.specs.declared.errors.SimError.TheVariants.{Memory, WriteFailed}
+use Rattle.rv_job.specs.declared.errors.SimError.TheVariants.{WriteFailed}
 use Rattle.rv_text.specs.Written.{AppendsBeginning}
 use Rattle.rv_program.specs.Answer.{IsAnswer}
 use Rattle.rv_program.specs.CoreReport.{untaught_of}
@@ -22,10 +22,7 @@ pub Ends-by_error : {T : Type 0} (task : Task) (predictor : Guide) (Is : T → L
     → AsksForMemory task → ((answer : T) (text : List ℕ) → Is answer text → Shows task predictor text (ended answer)) →
     IsAnswer Is (Err error) old new
     → Ends task predictor old new (Err error)
-Ends-by_error task predictor Is ended Memory old new asks shows nothing = (asks, Keeps-same old new nothing)
-Ends-by_error task predictor Is ended WriteFailed old new asks shows (answer, text, is, beginning) =
-    (text, ended answer, shows answer text is, beginning)
-Ends-by_error task predictor Is ended _ old new asks shows never = absurd never
+Ends-by_error task predictor Is ended error old new asks shows is = grind (arith, Keeps-same, ended)
 
 -- by whatever its call answered
 pub Ends-after : {T : Type 0} (task : Task) (predictor : Guide) (Is : T → List ℕ → Type 0) (ended : T → Ended)
@@ -33,11 +30,7 @@ pub Ends-after : {T : Type 0} (task : Task) (predictor : Guide) (Is : T → List
     → AsksForMemory task → ((a : T) (text : List ℕ) → Is a text → Shows task predictor text (ended a)) →
     IsAnswer Is answer old new → result ≡ ended_after ended answer
     → Ends task predictor old new result
-Ends-after task predictor Is ended (Ok a) old new asks shows (text, is, appended) same =
-    subst (Ends task predictor old new) (sym same) (text, shows a text is, appended)
-Ends-after task predictor Is ended (Err error) old new asks shows holds same =
-    subst (Ends task predictor old new) (sym same)
-    (Ends-by_error task predictor Is ended error old new asks shows holds)
+Ends-after task predictor Is ended answer old new asks shows holds same = grind (arith, Ends-by_error, ended)
 
 -- by a write that failed, of the text that the task has
 pub Ends-by_write : (task : Task) (predictor : Guide) (ended : Ended) (text : List ℕ) (old new : Option (List ℕ))

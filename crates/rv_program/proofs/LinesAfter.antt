@@ -1,5 +1,5 @@
 -- The interrupt lines keep the levels of the last cycle.
-use Rattle.std.proofs.Common.{◌≡◌, ℕ, ◌+◌, ◌-◌, ◌==◌, false, List, sym, subst, ap, ◌∙◌, refl, arith}
+use Rattle.std.proofs.Common.{◌≡◌, ℕ, ◌+◌, ◌-◌, List, sym, subst, ap, ◌∙◌, refl, arith}
 use Rattle.std.proofs.lemmas.Bool.{ne_eqb}
 use Rattle.std.specs.FinSet as set
 use Rattle.rv_isa.specs.Arrivals.{lines_at}
@@ -60,10 +60,7 @@ cycle_lines {lines} {old} {new} cycle =
     ap (λ (h : Hardware). h.lines) cycle.others_stay ∙ executed
 
 one_more : (arrivals : List Arrival) (n : ℕ) → lines_after arrivals (n + 1) ≡ lines_at arrivals n
-one_more arrivals n =
-    let some : (n + 1 == 0) ≡ false = ne_eqb (n + 1) 0 (λ none. omega (arith, none)) in
-    let last : n + 1 - 1 ≡ n = omega arith in
-    rw (some, last) refl
+one_more arrivals n = grind (arith, ne_eqb)
 
 -- after the cycles of a run
 run_lines : {arrivals : List Arrival} {old new : Hardware} {reports : List Report} → Cycles arrivals old reports new →

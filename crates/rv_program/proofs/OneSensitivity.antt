@@ -3,10 +3,9 @@ use Rattle.std.proofs.Common.{◌≡◌, ◌∙◌, ◌^◌, ◌≤◌, List, []
 use Rattle.std.specs.List.{AllZip}
 use Rattle.rv_isa.specs.declared.values.Values.{Values}
 use Rattle.rv_job.specs.declared.job.Job.{Job}
-use Rattle.rv_report.specs.Sensitivity.{in_order, sensitivity_table, tried_run}
+use Rattle.rv_report.specs.Sensitivity.{sensitivity_table, tried_run}
 use Rattle.rv_report.specs.declared.{losses.ComparedRun.ComparedRun, sensitivity.TriedRun.TriedRun}
 use Rattle.rv_report.specs.declared.{shown.TableOptions.TableOptions}
-use Rattle.rv_sensitivity.specs.Neighbours.{neighbours_of}
 use Rattle.rv_sensitivity.specs.declared.{change.Change.Change, neighbour.Neighbour.Neighbour}
 use Rattle.rv_program.specs.Comparison.{IsAtMostOneText, IsRunOn}
 use Rattle.rv_program.specs.CoreReport.{hardware_on}
@@ -37,9 +36,7 @@ module _ (job : Job) (options : TableOptions) (within : options.limit ≤ 2 ^ 40
 
   rows_once : (own : List Change) (rows rows' : List TriedRun) → AreRows options job own rows →
       AreRows options job own rows' → rows ≡ rows'
-  rows_once own rows rows' are are' =
-      are.rows_are ∙ ap in_order (each_once (neighbours_of job.description own) are.tried are'.tried are.each are'.each)
-      ∙ sym are'.rows_are
+  rows_once own rows rows' are are' = grind (arith, each_once)
 
 -- a job has one table of its neighbours
 pub one_sensitivity_of : (job : Job) (own : List Change) (options : TableOptions) → options.limit ≤ 2 ^ 40 →

@@ -1,20 +1,15 @@
 -- A comparison has one table: its machines' predictors are described, and so each of them has one run.
-use Rattle.std.proofs.Common.{◌≡◌, ◌∙◌, ◌+◌, ◌^◌, ◌≤◌, List, [], ◌∷◌, ◌++◌, map, refl, sym, ap, arith}
+use Rattle.std.proofs.Common.{◌≡◌, ◌+◌, ◌^◌, ◌≤◌, List, [], ◌∷◌, ◌++◌, refl, arith}
 use Rattle.rv_front.specs.Predictors.{guide_of}
 use Rattle.rv_front.specs.declared.predictors.DescribedPredictor.{DescribedPredictor}
 use Rattle.rv_hardware.specs.Guided.{GuidedHardware, guided}
 use Rattle.rv_hardware.specs.Hardware.{Hardware}
-use Rattle.rv_hardware.specs.History.{reports_of}
 use Rattle.rv_isa.specs.declared.lines.Arrival.{Arrival}
 use Rattle.rv_job.specs.declared.{comparison.Comparison.Comparison, job.Job.Job}
 use Rattle.rv_passage.specs.EndedRun.{IsEndedRun}
 use Rattle.rv_passage.proofs.OneRun.{one_run}
-use Rattle.rv_report.specs.Comparison.{RunsTo, table_of}
-use Rattle.rv_report.specs.Events.{events_in}
-use Rattle.rv_report.specs.Shown.{places_shown, words_of}
-use Rattle.rv_report.specs.Tally.{losses_of}
+use Rattle.rv_report.specs.Comparison.{RunsTo}
 use Rattle.rv_report.specs.declared.shown.TableOptions.{TableOptions}
-use Rattle.rv_report.specs.Totals.{totals_at}
 use Rattle.rv_report.specs.declared.{losses.ComparedRun.ComparedRun}
 use Rattle.rv_program.specs.Comparison.{AreRuns, IsAtMostOneText, IsComparisonTable, IsRun, another, nothing}
 use Rattle.rv_program.specs.CoreReport.{hardware_of}
@@ -29,20 +24,7 @@ pub came_to_once : {arrivals : List Arrival} {options : TableOptions} {h : Hardw
     (run run' : ComparedRun) → h.cycle + options.limit ≤ 2 ^ 40
     → RunsTo arrivals options (guided h (guide_of predictor)) run →
     RunsTo arrivals options (guided h (guide_of predictor)) run' → run ≡ run'
-came_to_once {arrivals} {options} {h} {predictor} run run' within is is' =
-    let same = one_run within (ended_run is) (ended_run is') in
-    let totals : run.totals ≡ run'.totals =
-    is.totals_are ∙ (λ i. totals_at (reports_of (same.moments_are i)) (same.reasons i)) ∙ sym is'.totals_are in
-    let losses : run.losses ≡ run'.losses = is.losses_are ∙ (λ i. losses_of h (same.moments_are i))
-    ∙ sym is'.losses_are in
-    let events : run.events ≡ run'.events = is.events_are ∙ (λ i. events_in h.values h (same.moments_are i))
-    ∙ sym is'.events_are in
-    let words : run.words ≡ run'.words = is.words_are ∙ (λ i. words_of options.shown (same.ends i).hardware)
-    ∙ sym is'.words_are in
-    let places : run.places ≡ run'.places =
-    is.places_are ∙ (λ i. places_shown options.shown h (same.moments_are i) (same.ends i).hardware)
-    ∙ sym is'.places_are in
-    λ i. record { totals = totals i; losses = losses i; events = events i; words = words i; places = places i }
+came_to_once {arrivals} {options} {h} {predictor} run run' within is is' = grind (arith, one_run, ended_run)
 
 module _ (options : TableOptions) where
   -- each job's run came to what stands at its place
@@ -79,7 +61,4 @@ module _ (options : TableOptions) where
 -- there is one table of a comparison
 pub one_table_of : (comparison : Comparison) (options : TableOptions) → options.limit ≤ 2 ^ 40 →
     IsAtMostOneText (IsComparisonTable comparison options)
-one_table_of comparison options within text text' is is' =
-    let runs = runs_once options within comparison.jobs.items is.runs is'.runs (each_run options is.done)
-    (each_run options is'.done) in
-    is.text_is ∙ ap (table_of options.shown (map (λ name. name.items) comparison.names.items)) runs ∙ sym is'.text_is
+one_table_of comparison options within text text' is is' = grind (arith, runs_once, each_run)

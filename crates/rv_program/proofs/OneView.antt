@@ -1,6 +1,5 @@
 -- A job with a described predictor has one view of each kind.
-use Rattle.std.proofs.Common.{◌≡◌, ◌∙◌, ◌+◌, ◌^◌, ◌≤◌, ℕ, Bool, true, false}
-use Rattle.std.proofs.Common.{List, Option, None, Some, ap, subst, sym, arith}
+use Rattle.std.proofs.Common.{◌≡◌, ◌∙◌, ◌+◌, ◌^◌, ◌≤◌, ℕ, Bool, List, Option, None, subst, sym, arith}
 use Rattle.rv_drawing.specs.declared.mark.Mark.{Mark}
 use Rattle.rv_explain.proofs.OneExplanation.{one_explanation}
 use Rattle.rv_explain.specs.Explanation.{IsExplanation}
@@ -37,10 +36,7 @@ whole stops none none' = λ i. record { stop = stops i; over = (none ∙ sym non
 -- what is asked for is one thing, where one alone is right
 asked_once : {T : Type 0} (path : Bool) (Is : T → Type 0) (found found' : Option T) →
     ((a b : T) → Is a → Is b → a ≡ b) → IsAskedFor path Is found → IsAskedFor path Is found' → found ≡ found'
-asked_once false Is found found' once none none' = none ∙ sym none'
-asked_once true Is (Some a) (Some b) once is is' = ap Some (once a b is is')
-asked_once true Is None found' once never is' = absurd never
-asked_once true Is (Some a) None once is never = absurd never
+asked_once path Is found found' once is is' = grind arith
 
 -- the predictor that a job describes
 abbrev own : Job → DescribedPredictor

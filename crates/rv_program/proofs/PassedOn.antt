@@ -1,9 +1,9 @@
 -- What an output holds once the buffer before it is gone.
-use Rattle.std.proofs.Common.{◌≡◌, ℕ, List, [], ◌++◌, length, take, drop, Option, Some}
-use Rattle.std.proofs.Common.{None, sym, ap, ◌∙◌, subst, refl, append-nil, append_assoc}
+use Rattle.std.proofs.Common.{◌≡◌, ℕ, List, [], ◌++◌, length, take, drop, Option, Some, arith, None, sym, ap, ◌∙◌}
+use Rattle.std.proofs.Common.{subst, append-nil, append_assoc}
 use Rattle.std.specs.Prelude.{Result, Ok, Err}
 use Rattle.std.specs.Io.Buffered.{writer_buffer, writer_contents, writer_inner}
-use Rattle.std.specs.Io.KnownBytes.{Appends, Keeps, append_known}
+use Rattle.std.specs.Io.KnownBytes.{Appends, Keeps}
 use Rattle.std.specs.declared.io.buffered.BufWriter.{BufWriter}
 use Rattle.std.proofs.Math.Seq.{take-length}
 use Rattle.std.proofs.lemmas.List.{take-append-drop}
@@ -19,38 +19,21 @@ use Rattle.rv_program.specs.declared.{ended.Ended.Ended, task.Task.Task}
 -- an empty buffer adds nothing to what its output holds
 pub begun : {W A : Type 0} (contents : W → Option (List ℕ)) (buffer : BufWriter W A) (output : W)
     → writer_inner buffer ≡ output → writer_buffer buffer ≡ [] → writer_contents contents buffer ≡ contents output
-begun contents buffer output is empty =
-    ap (λ held. append_known (contents (writer_inner buffer)) held) empty
-    ∙ unbuffered (contents (writer_inner buffer)) ∙ ap contents is
-  where
-    unbuffered : (known : Option (List ℕ)) → append_known known [] ≡ known
-    unbuffered None = refl
-    unbuffered (Some bytes) = ap Some (append-nil bytes)
+begun contents buffer output is empty = grind (arith, contents, append-nil)
 
 -- what an output holds is a beginning of what it and its buffer hold
 pub before_buffer : {W A : Type 0} (contents : W → Option (List ℕ)) (buffer : BufWriter W A) (output : W)
     → output ≡ writer_inner buffer → HoldsBeginning (writer_contents contents buffer) (contents output) []
-before_buffer contents buffer output is =
-    subst (λ o. HoldsBeginning (writer_contents contents buffer) (contents o) []) (sym is)
-    (beginning (contents (writer_inner buffer)))
-  where
-    beginning : (known : Option (List ℕ)) → HoldsBeginning (append_known known (writer_buffer buffer)) known []
-    beginning None = tt
-    beginning (Some bytes) = (writer_buffer buffer, sym (append-nil _))
+before_buffer contents buffer output is = grind (arith, contents, append-nil)
 
 -- what is kept is a beginning of itself
 pub whole_left : (held new : Option (List ℕ)) → Keeps held new → HoldsBeginning held new []
-whole_left None new kept = tt
-whole_left (Some held) None kept = absurd kept
-whole_left (Some held) (Some new) kept = ([], ap (λ l. l ++ []) kept)
+whole_left held new kept = grind arith
 
 -- a beginning of what was kept
 pub kept_left : (old held new : Option (List ℕ)) → Keeps old held → HoldsBeginning held new [] →
     HoldsBeginning old new []
-kept_left None held new kept left = tt
-kept_left (Some old) None new kept left = absurd kept
-kept_left (Some old) (Some held) None kept left = absurd left
-kept_left (Some old) (Some held) (Some new) kept (rest, is) = (rest, is ∙ ap (λ l. l ++ []) kept)
+kept_left old held new kept left = grind arith
 
 -- a beginning of what had grown by the front of a text
 grown_left : (old held new : Option (List ℕ)) (n : ℕ) (text : List ℕ) → Appends old held (take n text) →
@@ -69,15 +52,7 @@ grown_left (Some old) (Some held) (Some new) n text grown (rest, is) = (
 -- what passes on what was kept passes on what it was kept from
 pub kept_on : (ended : Ended) (outcome : Result Ended SimError) (held between new : Option (List ℕ))
     → Keeps held between → PassesOn (Ok ended) outcome between new → PassesOn (Ok ended) outcome held new
-kept_on ended (Ok _) held between new kept (same, passed) = (same, both held between new kept passed)
-  where
-    both : (a b c : Option (List ℕ)) → Keeps a b → Keeps b c → Keeps a c
-    both None b c first second = tt
-    both (Some a) None c first second = absurd first
-    both (Some a) (Some b) None first second = absurd second
-    both (Some a) (Some b) (Some c) first second = second ∙ first
-kept_on ended (Err WriteFailed) held between new kept left = kept_left held between new kept left
-kept_on ended (Err _) held between new kept never = absurd never
+kept_on ended outcome held between new kept left = grind (arith, kept_left)
 
 -- a task that ended into a buffer, which was passed on
 pub ended_passed_on : (task : Task) (predictor : Guide) (old held new : Option (List ℕ))

@@ -42,23 +42,11 @@ pub rows_made : (options : TableOptions) (job : Job) (own : List Change) (neighb
     → neighbours ≡ neighbours_of job.description own → given ≡ neighbours → AllZip (IsTried options job) given tried →
     handed ≡ tried → rows ≡ in_order handed
     → AreInOrder handed rows → AreRows options job own rows
-rows_made options job own neighbours given tried handed rows found lent each again placed ordered = record {
-  tried = tried;
-  each = subst (λ l. AllZip (IsTried options job) l tried) (lent ∙ found) each;
-  rows_are = placed ∙ ap in_order again;
-  in_order = subst (λ l. AreInOrder l rows) again ordered;
-}
+rows_made options job own neighbours given tried handed rows found lent each again placed ordered = grind arith
 
 -- the table of all
 pub sensitivity_made : (job : Job) (own : List Change) (options : TableOptions) (run : ComparedRun)
     (rows given : List TriedRun)
     → IsRun options job run → AreRows options job own rows → given ≡ rows →
     IsSensitivityTable job own options (sensitivity_table job.description run given)
-sensitivity_made job own options run rows given as_it_is tried lent =
-    record {
-      run = run;
-      rows = rows;
-      as_it_is = as_it_is;
-      tried = tried;
-      text_is = ap (sensitivity_table job.description run) lent;
-    }
+sensitivity_made job own options run rows given as_it_is tried lent = grind arith

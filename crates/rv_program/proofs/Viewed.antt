@@ -1,6 +1,6 @@
 -- The views of a job's run.
-use Rattle.std.proofs.Common.{◌≡◌, ℕ, List, None, Option, subst, sym}
-use Rattle.std.specs.Prelude.{Err, Ok, Result}
+use Rattle.std.proofs.Common.{◌≡◌, ℕ, List, None, Option, subst, sym, arith}
+use Rattle.std.specs.Prelude.{Result}
 use Rattle.rv_arch.specs.declared.outcome.Stop.{Stop}
 use Rattle.rv_front.specs.Guide.{Guide}
 use Rattle.rv_hardware.specs.Guided.{GuidedHardware, guided}
@@ -9,7 +9,6 @@ use Rattle.rv_job.specs.declared.listed_job.ListedJob.{ListedJob}
 use Rattle.rv_picture.specs.declared.picture.RunEnd.{RunEnd}
 use Rattle.rv_text.specs.IsText.{IsText}
 use Rattle.rv_text.specs.declared.output.TextError.{TextError}
-use Rattle.rv_text.specs.declared.output.TextError.TheVariants.{Memory, WriteFailed}
 use Rattle.rv_program.specs.CoreReport.{hardware_of}
 use Rattle.rv_program.specs.RunView.{IsShown, IsViewOf, whole_run}
 use Rattle.rv_program.specs.declared.run_view.RunView.{RunView}
@@ -26,10 +25,7 @@ written_whole : {Is : Stop → List ℕ → Type 0} (IsShownBy : RunEnd → List
     (old new : Option (List ℕ))
     → ((stop : Stop) (text : List ℕ) → Is stop text → IsShownBy (record { stop = stop; over = None }) text) →
     IsText Is written old new → IsText IsShownBy (whole_run written) old new
-written_whole IsShownBy (Ok stop) old new shows (text, is, appended) = (text, shows stop text is, appended)
-written_whole IsShownBy (Err WriteFailed) old new shows (stop, text, is, beginning) =
-    (record { stop = stop; over = None }, text, shows stop text is, beginning)
-written_whole IsShownBy (Err Memory) old new shows nothing = nothing
+written_whole IsShownBy written old new shows is = grind arith
 
 -- a view that is no picture
 pub shown_whole : {Is : Stop → List ℕ → Type 0} (IsShownBy : RunEnd → List ℕ → Type 0)
@@ -45,7 +41,4 @@ pub shown_as : {T : Type 0} {Is : T → List ℕ → Type 0} (IsShownBy : T → 
     (old new : Option (List ℕ))
     → ((answer : T) (text : List ℕ) → Is answer text → IsShownBy answer text) → IsText Is written old new →
     IsText IsShownBy written old new
-shown_as IsShownBy (Ok answer) old new shows (text, is, appended) = (text, shows answer text is, appended)
-shown_as IsShownBy (Err WriteFailed) old new shows (answer, text, is, beginning) =
-    (answer, text, shows answer text is, beginning)
-shown_as IsShownBy (Err Memory) old new shows nothing = nothing
+shown_as IsShownBy written old new shows is = grind arith

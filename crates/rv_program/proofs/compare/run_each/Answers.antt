@@ -16,6 +16,4 @@ loop-job-preserved c =
     c.job-item.result c.job-item.is c.in-Ok.ended c.in-Ok.ensures.run)
 
 pub returns-clause-runs : goal.returns-clause-runs
-returns-clause-runs c =
-    all_run c.args.options.now c.args.jobs.now c.loop-job.job-index c.loop-job.runs.items
-    (omega arith) c.loop-job.invariant
+returns-clause-runs c = grind (arith, all_run)

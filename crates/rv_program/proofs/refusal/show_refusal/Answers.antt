@@ -1,13 +1,9 @@
-use Rattle.std.proofs.Common.{inr}
+use Rattle.std.proofs.Common.{arith}
 use Rattle.rv_text.proofs.Writing.{Appends-kept}
 use Rattle.rv_program.proofs.refusal.show_refusal.Goals as goal
 
 pub returns-in-Ok-flush : goal.returns-in-Ok-flush
-returns-in-Ok-flush g c =
-    let (text, is, appended) = c.in-Ok.ensures in
-    rw is at (Appends-kept _ _ _ text appended c.flush.ensures.bytes)
+returns-in-Ok-flush g c = grind (arith, Appends-kept)
 
 pub returns-in-Err-flush : goal.returns-in-Err-flush
-returns-in-Err-flush g c =
-    let (text, is, appended) = c.in-Ok.ensures in
-    inr (rw is at (Appends-kept _ _ _ text appended c.flush.ensures.bytes))
+returns-in-Err-flush g c = grind (arith, Appends-kept)

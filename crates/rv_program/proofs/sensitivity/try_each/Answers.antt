@@ -5,9 +5,7 @@ use Rattle.rv_program.proofs.Tried.{all_tried, tried_more}
 use Rattle.rv_program.proofs.sensitivity.try_each.Goals as goal
 
 pub loop-neighbour-init : goal.loop-neighbour-init
-loop-neighbour-init c =
-    subst (AllZip (IsTried c.args.options.now c.args.job.now) (take 0 c.args.neighbours.now))
-    (sym c.new-runs.ensures.items) tt
+loop-neighbour-init c = grind arith
 
 pub loop-neighbour-preserved : goal.loop-neighbour-preserved
 loop-neighbour-preserved c =
@@ -18,7 +16,4 @@ loop-neighbour-preserved c =
     c.neighbour-item.result c.neighbour-item.is c.in-Ok.ended c.in-Ok.ensures.run)
 
 pub returns-clause-runs : goal.returns-clause-runs
-returns-clause-runs c =
-    all_tried c.args.options.now c.args.job.now c.args.neighbours.now c.loop-neighbour.neighbour-index
-    c.loop-neighbour.runs.items
-    (omega arith) c.loop-neighbour.invariant
+returns-clause-runs c = grind (arith, all_tried)
