@@ -7,6 +7,16 @@ pub(crate) fn check_bytes(rt: &impl Abort, found: &[u8], expected: &[u8]) {
     assert_eq!(rt; found, expected);
 }
 
+/// Checks that something holds.
+pub(crate) fn check(rt: &impl Abort, holds: bool) {
+    assert!(rt; holds);
+}
+
+/// Checks the beginning of bytes that were written.
+pub(crate) fn check_start(rt: &impl Abort, found: &[u8], start: &[u8]) {
+    assert!(rt; found.starts_with(start));
+}
+
 /// Checks the end of bytes that were written.
 pub(crate) fn check_end(rt: &impl Abort, found: &[u8], end: &[u8]) {
     assert!(rt; found.ends_with(end));
@@ -27,6 +37,26 @@ pub(crate) fn check_parts(rt: &impl Abort, text: &str, parts: &[&str]) {
     for part in parts {
         check_part(rt, text, part);
     }
+}
+
+/// Checks that bytes that were written have a part.
+pub(crate) fn check_has(rt: &impl Abort, found: &[u8], part: &str) {
+    check_part(rt, text_of(rt, found), part);
+}
+
+/// Checks that bytes that were written have each of these parts.
+pub(crate) fn check_has_all(rt: &impl Abort, found: &[u8], parts: &[&str]) {
+    check_parts(rt, text_of(rt, found), parts);
+}
+
+/// Checks that bytes that were written have none of these parts.
+pub(crate) fn check_has_none(rt: &impl Abort, found: &[u8], parts: &[&str]) {
+    check_none(rt, text_of(rt, found), parts);
+}
+
+/// The text that bytes are.
+pub(crate) fn text_of<'a>(rt: &impl Abort, bytes: &'a [u8]) -> &'a str {
+    str::from_utf8(bytes).expect(rt, "UTF-8")
 }
 
 /// Checks that a text has a part so often.

@@ -1,6 +1,5 @@
-use crate::checks::{check_bytes, check_end};
-use crate::machine::{described, listing, no_arrivals, pipeline};
-use crate::states::has_part;
+use crate::checks::{check_bytes, check_end, check_has, check_start};
+use crate::machine::{described, listing, no_arrivals};
 use rv_core::Pipeline;
 use rv_explain::{Figures, write_explanation};
 use rv_front::NotTaken;
@@ -51,22 +50,38 @@ none: the reorder buffer was empty
                 1    5.0%  ###
 ";
 
-// The explanation of twenty cycles of a program with these lines.
-fn explained(rt: &impl Abort, alloc: Global, program: &[u8], lines: &[&str]) -> Vec<u8> {
-    let description = described(rt, Values::standard());
+// A pipeline of a machine at reset with a program at the front of its RAM.
+fn loaded(rt: &impl Abort, alloc: Global, description: &Description, program: &[u8]) -> Pipeline {
+    let base = description.values().ram_base;
+    let image = Image::from_bytes(alloc, base, program, base).expect(rt, "an image");
+    Pipeline::new(alloc, description, &image).expect(rt, "a pipeline")
+}
+
+// The explanation of some cycles of a program with these lines, which stands where RAM begins.
+fn explained(
+    rt: &impl Abort,
+    alloc: Global,
+    base: u32,
+    cycles: u64,
+    figures: Figures,
+    program: &[u8],
+    lines: &[&str],
+) -> Vec<u8> {
+    let mut values = Values::standard();
+    values.ram_base = base;
+    let description = described(rt, values);
     let arrivals = no_arrivals(rt, alloc);
     let listing = listing(rt, alloc, lines);
     let mut output = Vec::new(alloc);
-    let mut pipeline = pipeline(rt, alloc, &description, program);
-    let mut predictor = NotTaken;
+    let mut pipeline = loaded(rt, alloc, &description, program);
     write_explanation(
         alloc,
         &mut pipeline,
-        &mut predictor,
+        &mut NotTaken,
         &description,
         &arrivals,
-        20,
-        Figures::Always,
+        cycles,
+        figures,
         None,
         &listing,
         &mut output,
@@ -75,10 +90,15 @@ fn explained(rt: &impl Abort, alloc: Global, program: &[u8], lines: &[&str]) -> 
     output
 }
 
+// The explanation of twenty cycles of a program with these lines.
+fn explained_whole(rt: &impl Abort, alloc: Global, program: &[u8], lines: &[&str]) -> Vec<u8> {
+    explained(rt, alloc, 0x8000_0000, 20, Figures::Always, program, lines)
+}
+
 // A call without a handler goes on at address 0, outside RAM, where each fetch traps again.
 #[test]
 fn a_trap_without_a_handler_is_explained(rt: HostRuntime) {
-    let output = explained(&rt, rt.alloc(), &BYTES, &["addi x1,x0,5", "ecall"]);
+    let output = explained_whole(&rt, rt.alloc(), &BYTES, &["addi x1,x0,5", "ecall"]);
     check_bytes(&rt, output.as_slice(), SENTENCES);
 }
 
@@ -105,46 +125,25 @@ none: the reorder buffer was empty
 
 #[test]
 fn words_of_no_line_are_explained_each_by_itself(rt: HostRuntime) {
-    let output = explained(&rt, rt.alloc(), &CHAIN, &["addi x1,x0,5"]);
+    let output = explained_whole(&rt, rt.alloc(), &CHAIN, &["addi x1,x0,5"]);
     check_end(&rt, output.as_slice(), LINES_OF_CHAIN);
-}
-
-// A pipeline of a machine at reset with a program at an address, where its RAM begins.
-fn pipeline_at(
-    rt: &impl Abort,
-    alloc: Global,
-    description: &Description,
-    base: u32,
-    program: &[u8],
-) -> Pipeline {
-    let image = Image::from_bytes(alloc, base, program, base).expect(rt, "an image");
-    Pipeline::new(alloc, description, &image).expect(rt, "a pipeline")
 }
 
 // What is explained of a hundred cycles of a program at an address, unless it crashed its crash alone.
 fn explained_at(rt: &impl Abort, alloc: Global, base: u32, program: &[u8]) -> Vec<u8> {
-    let mut values = Values::standard();
-    values.ram_base = base;
-    let description = described(rt, values);
-    let arrivals = no_arrivals(rt, alloc);
-    let listing = listing(rt, alloc, &[]);
-    let mut output = Vec::new(alloc);
-    let mut pipeline = pipeline_at(rt, alloc, &description, base, program);
-    let mut predictor = NotTaken;
-    write_explanation(
-        alloc,
-        &mut pipeline,
-        &mut predictor,
-        &description,
-        &arrivals,
-        100,
-        Figures::UnlessCrashed,
-        None,
-        &listing,
-        &mut output,
-    )
-    .expect(rt, "room");
-    output
+    explained(rt, alloc, base, 100, Figures::UnlessCrashed, program, &[])
+}
+
+// Checks how that begins.
+fn check_beginning(rt: &impl Abort, alloc: Global, base: u32, program: &[u8], beginning: &str) {
+    let output = explained_at(rt, alloc, base, program);
+    check_start(rt, output.as_slice(), beginning.as_bytes());
+}
+
+// Checks that it has a part.
+fn check_explained(rt: &impl Abort, alloc: Global, base: u32, program: &[u8], part: &str) {
+    let output = explained_at(rt, alloc, base, program);
+    check_has(rt, output.as_slice(), part);
 }
 
 // addi x1,x0,4; csrw mtvec,x1; ecall
@@ -155,9 +154,8 @@ const HANDLER_AT_4: [u8; 12] = [
 // The least address that is a handler's: no word of RAM is there, so the program traps again and again, at that address.
 #[test]
 fn a_handler_at_4_is_one(rt: HostRuntime) {
-    let output = explained_at(&rt, rt.alloc(), 0x8000_0000, &HANDLER_AT_4);
-    let ending = b"The run was cut off at its limit of cycles, and the program stood at 00000004";
-    assert!(&rt; output.as_slice().starts_with(ending));
+    let ending = "The run was cut off at its limit of cycles, and the program stood at 00000004";
+    check_beginning(&rt, rt.alloc(), 0x8000_0000, &HANDLER_AT_4, ending);
 }
 
 // addi x1,x1,1; addi x2,x0,2; beq x1,x2,8; ecall; ebreak
@@ -169,9 +167,8 @@ const SECOND_TURN: [u8; 20] = [
 // The call finds no handler, and the program goes on at its own first word, at address 0. The second turn ends at the breakpoint.
 #[test]
 fn a_run_that_ended_at_a_breakpoint_did_not_crash(rt: HostRuntime) {
-    let output = explained_at(&rt, rt.alloc(), 0, &SECOND_TURN);
-    let ending = b"The run ended at a breakpoint, at 00000010";
-    assert!(&rt; output.as_slice().starts_with(ending));
+    let ending = "The run ended at a breakpoint, at 00000010";
+    check_beginning(&rt, rt.alloc(), 0, &SECOND_TURN, ending);
 }
 
 // addi x1,x0,5; div x2,x1,x1; add x3,x1,x2; ebreak
@@ -182,10 +179,8 @@ const SECOND_IS_LATER: [u8; 16] = [
 // The sum waits for its first operand in cycle 3, and then for the quotient, its second one, from cycle 4 up to its broadcast in 20.
 #[test]
 fn of_two_operands_the_first_that_is_missing_is_awaited(rt: HostRuntime) {
-    let output = explained_at(&rt, rt.alloc(), 0x8000_0000, &SECOND_IS_LATER);
-    let awaited =
-        b"Awaited most, for 17 of 24 cycles: 80000004, which no line of the program fills";
-    assert!(&rt; has_part(output.as_slice(), awaited));
+    let awaited = "Awaited most, for 17 of 24 cycles: 80000004, which no line of the program fills";
+    check_explained(&rt, rt.alloc(), 0x8000_0000, &SECOND_IS_LATER, awaited);
 }
 
 // auipc x1,0; lw x2,256(x1); ebreak
@@ -204,29 +199,28 @@ const WRONG_BRANCH: [u8; 12] = [
 // The load is issued in cycle 4, when it has its address, costs 11, and stands at the head from the end of cycle 4 to that
 // of 15. The store has its address in cycle 3 and stands there up to its retirement in 4, in which its drain begins; the
 // breakpoint traps in the same cycle. The branch retires in cycle 4, and leaves the reorder buffer empty in that one, too.
-static LONGEST: [(u32, &[u8], &[u8]); 3] = [
+static LONGEST: [(u32, &[u8], &str); 3] = [
     (
         0x8000_0000,
         &LOAD_THAT_MISSES,
-        b"\nLongest at the head of the reorder buffer, or had flushed it, for 12 of 17 cycles (its loads: hits 0, misses 1, write-backs 0): 80000004, which",
+        "\nLongest at the head of the reorder buffer, or had flushed it, for 12 of 17 cycles (its loads: hits 0, misses 1, write-backs 0): 80000004, which",
     ),
     (
         0,
         &STORE_THAT_MISSES,
-        b"\nLongest at the head of the reorder buffer, or had flushed it, for 3 of 5 cycles (its stores: hits 0, misses 1, write-backs 0): 00000000, which",
+        "\nLongest at the head of the reorder buffer, or had flushed it, for 3 of 5 cycles (its stores: hits 0, misses 1, write-backs 0): 00000000, which",
     ),
     (
         0,
         &WRONG_BRANCH,
-        b"\nLongest at the head of the reorder buffer, or had flushed it, for 4 of 7 cycles (its branches and jumps: 1, of them 1 mispredicted): 00000000, which",
+        "\nLongest at the head of the reorder buffer, or had flushed it, for 4 of 7 cycles (its branches and jumps: 1, of them 1 mispredicted): 00000000, which",
     ),
 ];
 
 #[test]
 fn the_line_that_stood_longest_at_the_head_is_named_with_what_it_did(rt: HostRuntime) {
     for (base, program, line) in &LONGEST {
-        let output = explained_at(&rt, rt.alloc(), *base, program);
-        assert!(&rt; has_part(output.as_slice(), line));
+        check_explained(&rt, rt.alloc(), *base, program, line);
     }
 }
 
@@ -238,7 +232,6 @@ const STORE_THAT_HITS: [u8; 16] = [
 // The load brought the line in, to which the store is drained.
 #[test]
 fn a_drain_into_a_line_that_is_there_hits(rt: HostRuntime) {
-    let output = explained_at(&rt, rt.alloc(), 0x8000_0000, &STORE_THAT_HITS);
-    let drains = b"drains: 1, of them 1 at the cost of a hit, 0 at that of a miss";
-    assert!(&rt; has_part(output.as_slice(), drains));
+    let drains = "drains: 1, of them 1 at the cost of a hit, 0 at that of a miss";
+    check_explained(&rt, rt.alloc(), 0x8000_0000, &STORE_THAT_HITS, drains);
 }

@@ -1,3 +1,4 @@
+use crate::checks::check;
 use crate::machine::{described, pipeline};
 use rv_core::Pipeline;
 use rv_isa::Values;
@@ -18,7 +19,7 @@ fn begun(alloc: Global, pipeline: &Pipeline) -> Result<Table, AllocError> {
 fn nothing_is_in_flight_at_reset(rt: HostRuntime) {
     let pipeline = pipeline(&rt, rt.alloc(), &described(&rt, Values::standard()), &[]);
     let mut table = begun(rt.alloc(), &pipeline).expect(&rt, "memory");
-    assert!(&rt; table.make_room().is_ok());
-    assert!(&rt; table.rows().is_empty());
-    assert!(&rt; table.interrupts().is_empty());
+    check(&rt, table.make_room().is_ok());
+    check(&rt, table.rows().is_empty());
+    check(&rt, table.interrupts().is_empty());
 }

@@ -1,3 +1,4 @@
+use crate::checks::{check, check_end, check_start};
 use crate::machine::{described, listing, narrow, no_arrivals, pipeline};
 use rv_front::NotTaken;
 use rv_profile::write_profile;
@@ -53,11 +54,12 @@ fn profiled(rt: &impl Abort, alloc: Global, program: &[u8], lines: &[&str]) -> V
     output
 }
 
-// Checks that a profile is its head and these lines.
-fn check_lines(rt: &impl Abort, profile: &[u8], lines: &[u8]) {
-    assert!(rt; profile.starts_with(HEAD));
-    assert!(rt; profile.ends_with(lines));
-    assert!(rt; profile.len() == HEAD.len().wrapping_add(lines.len()));
+// Checks that the profile of a program is its head and these lines.
+fn check_profile(rt: &impl Abort, alloc: Global, program: &[u8], source: &[&str], lines: &[u8]) {
+    let profile = profiled(rt, alloc, program, source);
+    check_start(rt, profile.as_slice(), HEAD);
+    check_end(rt, profile.as_slice(), lines);
+    check(rt, profile.len() == HEAD.len().wrapping_add(lines.len()));
 }
 
 // The first load misses and the second one hits; the branch, which is taken, was predicted not to be.
@@ -70,8 +72,7 @@ fn each_address_has_a_line_of_its_counts(rt: HostRuntime) {
         "beq x0,x0,8",
         "addi x4,x0,1",
     ];
-    let profile = profiled(&rt, rt.alloc(), &BYTES, &SOURCE);
-    check_lines(&rt, profile.as_slice(), LINES);
+    check_profile(&rt, rt.alloc(), &BYTES, &SOURCE, LINES);
 }
 
 // addi x1,x0,3; addi x1,x1,-1; bne x1,x0,-4; ebreak
@@ -96,6 +97,5 @@ const LINES_OF_LOOP: &[u8] = b"\
 #[test]
 fn the_turns_of_a_loop_are_counted_together(rt: HostRuntime) {
     static SOURCE: [&str; 4] = ["addi x1,x0,3", "addi x1,x1,-1", "bne x1,x0,-4", "ebreak"];
-    let profile = profiled(&rt, rt.alloc(), &LOOP, &SOURCE);
-    check_lines(&rt, profile.as_slice(), LINES_OF_LOOP);
+    check_profile(&rt, rt.alloc(), &LOOP, &SOURCE, LINES_OF_LOOP);
 }

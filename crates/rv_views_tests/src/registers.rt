@@ -1,3 +1,4 @@
+use crate::checks::check;
 use crate::machine::{described, pipeline};
 use rv_front::NotTaken;
 use rv_isa::{Lines, Values};
@@ -21,6 +22,6 @@ fn a_run_of_the_core_leaves_what_the_manual_says(rt: HostRuntime) {
         pipeline.cycle(&mut predictor, Lines::default());
     }
     let registers = pipeline.shown().observe().regs;
-    assert!(&rt; registers[3] == 0 && registers[4] == 1);
-    assert!(&rt; registers[5] == 0 && registers[6] == 0xffff_ffff);
+    check(&rt, registers[3] == 0 && registers[4] == 1);
+    check(&rt, registers[5] == 0 && registers[6] == 0xffff_ffff);
 }

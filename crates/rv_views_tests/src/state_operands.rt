@@ -1,6 +1,6 @@
+use crate::checks::check_has;
 use crate::machine::{described, narrow, pipeline};
 use crate::state_start::counts;
-use crate::states::has_part;
 use rv_front::NotTaken;
 use rv_isa::Lines;
 use rv_states::write_start;
@@ -16,7 +16,7 @@ const PROGRAM: [u8; 32] = [
 // One is fetched in each cycle, and dispatched in the next. The division begins in cycle 5, after 3 was broadcast in
 // cycle 4, and holds up the retirement of the rest. The second value of x1 is known, x2 has retired; x3 is written by
 // the division and again by the second addition after it, and x18 is another register than x2.
-const WAITING: &[u8] = b"\"reorder_buffer\":[\
+const WAITING: &str = "\"reorder_buffer\":[\
 {\"sequence\":2,\"pc\":2147483656,\"word\":35701171,\"fetched\":2,\"dispatched\":3,\"predicted\":2147483660,\
 \"target\":3,\"kind\":\"div\",\"issued\":5,\"cost\":16},\
 {\"sequence\":3,\"pc\":2147483660,\"word\":17825939,\"fetched\":3,\"dispatched\":4,\"predicted\":2147483664,\
@@ -44,5 +44,5 @@ fn what_an_instruction_waits_for_is_the_youngest_older_result(rt: HostRuntime) {
         &pipeline.shown(),
         &counts(None),
     );
-    assert!(&rt; has_part(line.as_slice(), WAITING));
+    check_has(&rt, line.as_slice(), WAITING);
 }

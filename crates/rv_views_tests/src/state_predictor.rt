@@ -1,5 +1,5 @@
+use crate::checks::{check_has, check_has_none};
 use crate::machine::{described, listing, no_arrivals, pipeline};
-use crate::states::has_part;
 use rv_front::DescribedPredictor;
 use rv_isa::{PredictorKind, Values};
 use rv_states::{Form, write_states};
@@ -7,7 +7,7 @@ use std::alloc::Global;
 use std::process::Abort;
 
 // The states from a cycle on of a program on the standard machine with a bimodal predictor of four places, for thirty cycles.
-pub(crate) fn lines_from(rt: &impl Abort, alloc: Global, from: u64, program: &[u8]) -> Vec<u8> {
+fn lines_from(rt: &impl Abort, alloc: Global, from: u64, program: &[u8]) -> Vec<u8> {
     let mut values = Values::standard();
     values.predictor.kind = PredictorKind::Bimodal;
     values.predictor.entries = 4;
@@ -34,6 +34,18 @@ pub(crate) fn lines_from(rt: &impl Abort, alloc: Global, from: u64, program: &[u
     output
 }
 
+/// Checks that they have a part.
+pub(crate) fn check_lines_from(
+    rt: &impl Abort,
+    alloc: Global,
+    from: u64,
+    program: &[u8],
+    part: &str,
+) {
+    let lines = lines_from(rt, alloc, from, program);
+    check_has(rt, lines.as_slice(), part);
+}
+
 // auipc x1,0; jalr x0,4(x1)
 const JUMP_TO_ITSELF: [u8; 8] = [0x97, 0x00, 0x00, 0x00, 0x67, 0x80, 0x40, 0x00];
 
@@ -41,13 +53,11 @@ const JUMP_TO_ITSELF: [u8; 8] = [0x97, 0x00, 0x00, 0x00, 0x67, 0x80, 0x40, 0x00]
 // it. A place with a target has a line before a later window, though its counter is as at first.
 #[test]
 fn a_jump_by_register_is_learned_before_its_cycle_asks(rt: HostRuntime) {
-    let lines = lines_from(&rt, rt.alloc(), 0, &JUMP_TO_ITSELF);
     let cycle =
-        b"\"learned\":[{\"place\":1,\"counter\":1,\"target\":2147483652}],\"asked\":[{\"pc\":2147483652,\"place\":1,\"answer\":2147483652}]}\n";
-    assert!(&rt; has_part(lines.as_slice(), cycle));
-    let lines = lines_from(&rt, rt.alloc(), 20, &JUMP_TO_ITSELF);
-    let place = b"\n{\"place\":1,\"counter\":1,\"target\":2147483652}\n{\"start\":20,";
-    assert!(&rt; has_part(lines.as_slice(), place));
+        "\"learned\":[{\"place\":1,\"counter\":1,\"target\":2147483652}],\"asked\":[{\"pc\":2147483652,\"place\":1,\"answer\":2147483652}]}\n";
+    check_lines_from(&rt, rt.alloc(), 0, &JUMP_TO_ITSELF, cycle);
+    let place = "\n{\"place\":1,\"counter\":1,\"target\":2147483652}\n{\"start\":20,";
+    check_lines_from(&rt, rt.alloc(), 20, &JUMP_TO_ITSELF, place);
 }
 
 // bne x0,x0,8; bne x0,x0,8; ebreak
@@ -58,9 +68,8 @@ const NOT_TAKEN: [u8; 12] = [
 // Both retire in one cycle, and each goes on at the word after it.
 #[test]
 fn two_branches_of_one_cycle_count_down_each(rt: HostRuntime) {
-    let lines = lines_from(&rt, rt.alloc(), 0, &NOT_TAKEN);
-    let learned = b"\"learned\":[{\"place\":0,\"counter\":0},{\"place\":1,\"counter\":0}]";
-    assert!(&rt; has_part(lines.as_slice(), learned));
+    let learned = "\"learned\":[{\"place\":0,\"counter\":0},{\"place\":1,\"counter\":0}]";
+    check_lines_from(&rt, rt.alloc(), 0, &NOT_TAKEN, learned);
 }
 
 // jal x0,4; ebreak
@@ -69,6 +78,6 @@ const JUMP: [u8; 8] = [0x6f, 0x00, 0x40, 0x00, 0x73, 0x00, 0x10, 0x00];
 #[test]
 fn a_jump_changes_no_place(rt: HostRuntime) {
     let lines = lines_from(&rt, rt.alloc(), 0, &JUMP);
-    assert!(&rt; has_part(lines.as_slice(), b"\"learned\":[]"));
-    assert!(&rt; !has_part(lines.as_slice(), b"\"learned\":[{"));
+    check_has(&rt, lines.as_slice(), "\"learned\":[]");
+    check_has_none(&rt, lines.as_slice(), &["\"learned\":[{"]);
 }

@@ -1,6 +1,5 @@
-use crate::checks::check_bytes;
+use crate::checks::{check_bytes, check_has};
 use crate::machine::{described, narrow, pipeline};
-use crate::states::has_part;
 use rv_core::Pipeline;
 use rv_decode::Decoded;
 use rv_front::NotTaken;
@@ -107,6 +106,6 @@ fn the_reason_to_dispatch_nothing_has_its_name(rt: HostRuntime) {
     let pipeline = pipeline(&rt, rt.alloc(), &described(&rt, narrow()), &ADDITION);
     for (stall, part) in &STALLS {
         let line = started(rt.alloc(), &pipeline, *stall);
-        assert!(&rt; has_part(line.as_slice(), part.as_bytes()));
+        check_has(&rt, line.as_slice(), part);
     }
 }

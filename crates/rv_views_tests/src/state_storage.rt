@@ -1,8 +1,7 @@
-use crate::checks::{check_bytes, check_end};
+use crate::checks::{check_bytes, check_end, check_has, check_has_all, check_start};
 use crate::machine::{described, narrow, pipeline};
-use crate::state_predictor::lines_from;
+use crate::state_predictor::check_lines_from;
 use crate::state_start::counts;
-use crate::states::has_part;
 use rv_core::Pipeline;
 use rv_front::NotTaken;
 use rv_isa::Lines;
@@ -59,7 +58,7 @@ fn memory_has_what_programs_see(rt: HostRuntime) {
     let pipeline = after(&rt, alloc, 80);
     let mut lines = Vec::new(alloc);
     write_memory(&mut Sink::new(&mut lines), &pipeline.shown());
-    assert!(&rt; lines.as_slice().starts_with(PROGRAM_LINES));
+    check_start(&rt, lines.as_slice(), PROGRAM_LINES);
     check_end(&rt, lines.as_slice(), STORED);
 }
 
@@ -80,9 +79,9 @@ fn a_set_has_the_line_first_that_was_stored_to_last(rt: HostRuntime) {
 
 // The load is issued in cycle 4, after its address was broadcast in cycle 3; a hit costs 1 cycle, a miss 10 more. The
 // first store was dispatched in cycle 4.
-static MISSING: [&[u8]; 2] = [
-    b"\"target\":3,\"kind\":\"mem\",\"issued\":4,\"cost\":11}",
-    b"\"mem\":[{\"since\":4,\"cycles\":1}]},\
+static MISSING: [&str; 2] = [
+    "\"target\":3,\"kind\":\"mem\",\"issued\":4,\"cost\":11}",
+    "\"mem\":[{\"since\":4,\"cycles\":1}]},\
 \"store_queue\":[{\"sequence\":3,\"state\":\"waiting\"}],\"port_free\":15}}\n",
 ];
 
@@ -97,9 +96,7 @@ fn a_load_that_misses_keeps_the_port(rt: HostRuntime) {
         &pipeline.shown(),
         &counts(None),
     );
-    for part in &MISSING {
-        assert!(&rt; has_part(line.as_slice(), part));
-    }
+    check_has_all(&rt, line.as_slice(), &MISSING);
 }
 
 // auipc x1,0; lw x2,240(x1); jal x0,0
@@ -110,7 +107,6 @@ const LOAD_OF_THE_LAST_SET: [u8; 12] = [
 // The line of 800000f0, of sixteen bytes, is the last of the first sixteen.
 #[test]
 fn the_last_set_stands_before_a_window(rt: HostRuntime) {
-    let lines = lines_from(&rt, rt.alloc(), 25, &LOAD_OF_THE_LAST_SET);
-    let set = b"{\"set\":15,\"lines\":[{\"line\":134217743,\"dirty\":false}]}\n";
-    assert!(&rt; has_part(lines.as_slice(), set));
+    let set = "{\"set\":15,\"lines\":[{\"line\":134217743,\"dirty\":false}]}\n";
+    check_lines_from(&rt, rt.alloc(), 25, &LOAD_OF_THE_LAST_SET, set);
 }

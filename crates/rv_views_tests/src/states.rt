@@ -1,3 +1,4 @@
+use crate::checks::{check_end, check_has, check_has_all, check_has_none, check_start, text_of};
 use crate::machine::{described, listing, narrow, no_arrivals, pipeline};
 use rv_arch::Stop;
 use rv_front::NotTaken;
@@ -9,7 +10,7 @@ use std::process::Abort;
 const BYTES: [u8; 8] = [0x93, 0x00, 0x50, 0x00, 0x73, 0x00, 0x10, 0x00];
 
 // The states of a run of three cycles, but for the first, of a program that reads so.
-fn text_of(rt: &impl Abort, alloc: Global, form: Form, program: &[&str]) -> Vec<u8> {
+fn written(rt: &impl Abort, alloc: Global, form: Form, program: &[&str]) -> Vec<u8> {
     let description = described(rt, narrow());
     let arrivals = no_arrivals(rt, alloc);
     let listing = listing(rt, alloc, program);
@@ -35,24 +36,16 @@ fn text_of(rt: &impl Abort, alloc: Global, form: Form, program: &[&str]) -> Vec<
 // Those of an addition and a breakpoint.
 fn states_of(rt: &impl Abort, alloc: Global, form: Form) -> Vec<u8> {
     static LINES: [&str; 2] = ["addi x1,x0,5", "ebreak"];
-    text_of(rt, alloc, form, &LINES)
-}
-
-// Whether a text has a part, which is not empty.
-pub(crate) fn has_part(text: &[u8], part: &[u8]) -> bool {
-    if part.is_empty() {
-        return false;
-    }
-    text.windows(part.len()).any(|each| each == part)
+    written(rt, alloc, form, &LINES)
 }
 
 // The words at 80000000 and 80000004 are 00500093 and 00100073; the addition was fetched in cycle 0, dispatched in 1 and issued
 // in 2.
-static PARTS: [&[u8]; 4] = [
-    b"{\"address\":2147483652,\"line\":2,\"text\":\"ebreak\"}\n{\"memory\":2147483648,\"word\":5243027,\"stale\":false}\n{\"memory\":2147483652,\"word\":1048691,\"stale\":false}\n{\"start\":1,\"instructions\":[{\"number\":0}],",
-    b"}}\n{\"cycle\":1,\"instructions\":[{\"number\":0},{\"number\":1}],\"steps\":[],\"counts\":{\"cycles\":2,\"busy\":1,\"fetch\":1,",
-    b"]}\n{\"cycle\":2,",
-    b"]}\n{\"cycles\":3,\"stop\":\"limit\"}\n",
+static PARTS: [&str; 4] = [
+    "{\"address\":2147483652,\"line\":2,\"text\":\"ebreak\"}\n{\"memory\":2147483648,\"word\":5243027,\"stale\":false}\n{\"memory\":2147483652,\"word\":1048691,\"stale\":false}\n{\"start\":1,\"instructions\":[{\"number\":0}],",
+    "}}\n{\"cycle\":1,\"instructions\":[{\"number\":0},{\"number\":1}],\"steps\":[],\"counts\":{\"cycles\":2,\"busy\":1,\"fetch\":1,",
+    "]}\n{\"cycle\":2,",
+    "]}\n{\"cycles\":3,\"stop\":\"limit\"}\n",
 ];
 
 const HEAD: &[u8] =
@@ -61,37 +54,26 @@ const HEAD: &[u8] =
 #[test]
 fn the_cycles_after_the_first_are_shown_line_by_line(rt: HostRuntime) {
     let lines = states_of(&rt, rt.alloc(), Form::Lines);
-    assert!(&rt; lines.as_slice().starts_with(HEAD));
-    check_parts(&rt, lines.as_slice(), &PARTS);
-    assert!(&rt; !has_part(lines.as_slice(), b"{\"cycle\":0,"));
-}
-
-// Checks that a text has each of these parts.
-fn check_parts(rt: &impl Abort, text: &[u8], parts: &[&[u8]]) {
-    for part in parts {
-        assert!(rt; has_part(text, part));
-    }
+    check_start(&rt, lines.as_slice(), HEAD);
+    check_has_all(&rt, lines.as_slice(), &PARTS);
+    check_has_none(&rt, lines.as_slice(), &["{\"cycle\":0,"]);
 }
 
 #[test]
 fn a_page_has_the_same_lines_in_a_viewer(rt: HostRuntime) {
     let lines = states_of(&rt, rt.alloc(), Form::Lines);
     let page = states_of(&rt, rt.alloc(), Form::Page);
-    assert!(rt; page.as_slice().starts_with(b"<!DOCTYPE html>\n"));
-    assert!(rt; has_part(page.as_slice(), lines.as_slice()));
-    assert!(rt; page.as_slice().ends_with(b"</html>\n"));
-}
-
-fn has_markup(text: &[u8]) -> bool {
-    text.iter()
-        .any(|byte| *byte == b'<' || *byte == b'>' || *byte == b'&')
+    check_start(&rt, page.as_slice(), b"<!DOCTYPE html>\n");
+    check_has(&rt, page.as_slice(), text_of(&rt, lines.as_slice()));
+    check_end(&rt, page.as_slice(), b"</html>\n");
 }
 
 #[test]
 fn a_statement_with_markup_leaves_none_in_the_lines(rt: HostRuntime) {
     static PROGRAM: [&str; 2] = ["</script><b>&amp;\"'", "<!-- ebreak"];
-    let text = b"\"text\":\"\\u003c/script\\u003e\\u003cb\\u003e\\u0026amp;\\u0022'\"}\n";
-    let lines = text_of(&rt, rt.alloc(), Form::Lines, &PROGRAM);
-    assert!(&rt; has_part(lines.as_slice(), text));
-    assert!(&rt; !has_markup(lines.as_slice()));
+    static MARKUP: [&str; 3] = ["<", ">", "&"];
+    let text = "\"text\":\"\\u003c/script\\u003e\\u003cb\\u003e\\u0026amp;\\u0022'\"}\n";
+    let lines = written(&rt, rt.alloc(), Form::Lines, &PROGRAM);
+    check_has(&rt, lines.as_slice(), text);
+    check_has_none(&rt, lines.as_slice(), &MARKUP);
 }

@@ -1,6 +1,5 @@
-use crate::checks::check_end;
+use crate::checks::{check_end, check_has};
 use crate::json::expect_text;
-use crate::states::has_part;
 use rv_isa::{
     CacheValues, KindValues, PerKind, PredictorKind, PredictorValues, Recovery, ReportValues,
     Values,
@@ -119,7 +118,7 @@ fn header(alloc: Global, recovery: Recovery, predictor: PredictorKind) -> Vec<u8
 
 // Checks that a first line has a part and an end.
 fn check_header(rt: &impl Abort, header: &[u8], part: &str, end: &str) {
-    assert!(rt; has_part(header, part.as_bytes()));
+    check_has(rt, header, part);
     check_end(rt, header, end.as_bytes());
 }
 

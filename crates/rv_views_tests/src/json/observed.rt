@@ -1,3 +1,4 @@
+use crate::checks::check;
 use crate::json::expect_text;
 use rv_arch::{CsrOperand, Csrs, Observed};
 use rv_isa::{CsrAddress, CsrOp, Lines};
@@ -33,7 +34,7 @@ fn csrs(rt: &impl Abort) -> Csrs {
             field_is_zero: false,
         };
         let accessed = csrs.csr_access(CsrOp::Write, address, operand, Lines::default());
-        assert!(rt; accessed.is_ok());
+        check(rt, accessed.is_ok());
     }
     csrs
 }

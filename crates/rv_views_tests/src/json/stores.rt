@@ -1,3 +1,4 @@
+use crate::checks::check;
 use crate::json::expect_text;
 use crate::machine::described;
 use rv_isa::{StoreAccess, StoreBytes, Values, Width};
@@ -26,7 +27,7 @@ fn a_store_shows_how_far_it_has_come_and_what_it_writes(rt: HostRuntime) {
         &rt, "a queue",
     );
     for sequence in [10, 12, 13, 15, 16] {
-        assert!(&rt; queue.can_enter(sequence));
+        check(&rt, queue.can_enter(sequence));
         queue.enter(sequence);
     }
     queue.fill(10, access(80, Width::Word, 0x0403_0201));
@@ -35,7 +36,7 @@ fn a_store_shows_how_far_it_has_come_and_what_it_writes(rt: HostRuntime) {
     queue.fill_fault(15);
     queue.commit_oldest();
     queue.commit_oldest();
-    assert!(&rt; queue.can_drain());
+    check(&rt, queue.can_drain());
     let _access = queue.start_drain();
     let mut text = Vec::new(alloc);
     write_store_queue(&mut Sink::new(&mut text), &queue);

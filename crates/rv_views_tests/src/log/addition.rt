@@ -1,4 +1,4 @@
-use crate::checks::check_bytes;
+use crate::checks::{check, check_bytes};
 use crate::log::logged;
 use crate::machine::narrow;
 use rv_arch::Stop;
@@ -62,6 +62,6 @@ R\t4\t4\t1
 #[test]
 fn an_addition_passes_through_each_stage(rt: HostRuntime) {
     let (stop, text) = logged(&rt, rt.alloc(), narrow(), PROGRAM, &LINES, 0, 100);
-    assert!(&rt; stop == Stop::Breakpoint);
+    check(&rt, stop == Stop::Breakpoint);
     check_bytes(&rt, text.as_slice(), LOG);
 }

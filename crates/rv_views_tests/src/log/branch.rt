@@ -1,4 +1,4 @@
-use crate::checks::check_bytes;
+use crate::checks::{check, check_bytes};
 use crate::log::logged;
 use crate::machine::narrow;
 use rv_arch::Stop;
@@ -65,6 +65,6 @@ R\t4\t1\t0
 #[test]
 fn a_log_that_begins_in_a_run_counts_what_retires(rt: HostRuntime) {
     let (stop, text) = logged(&rt, rt.alloc(), narrow(), PROGRAM, &LINES, 4, 5);
-    assert!(&rt; stop == Stop::Limit);
+    check(&rt, stop == Stop::Limit);
     check_bytes(&rt, text.as_slice(), LOG);
 }

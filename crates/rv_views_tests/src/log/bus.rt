@@ -1,4 +1,4 @@
-use crate::checks::check_end;
+use crate::checks::{check, check_end};
 use crate::log::logged;
 use rv_arch::Stop;
 use rv_isa::Values;
@@ -21,7 +21,7 @@ fn a_result_that_waits_for_the_bus_is_in_a_stage_of_its_own(rt: HostRuntime) {
     values.fetch_buffer = 2;
     values.rob = 2;
     let (stop, text) = logged(&rt, rt.alloc(), values, PROGRAM, &[], 0, 4);
-    assert!(&rt; stop == Stop::Limit);
+    check(&rt, stop == Stop::Limit);
     check_end(&rt, text.as_slice(), LAST_CYCLE);
 }
 
@@ -41,6 +41,6 @@ fn an_instruction_depends_on_the_one_whose_result_it_waits_for(rt: HostRuntime) 
     values.fetch_buffer = 2;
     values.rob = 2;
     let (stop, text) = logged(&rt, rt.alloc(), values, CHAIN, &[], 0, 4);
-    assert!(&rt; stop == Stop::Limit);
+    check(&rt, stop == Stop::Limit);
     check_end(&rt, text.as_slice(), WAKING);
 }

@@ -1,6 +1,7 @@
 use crate::log::waits::{SERIAL, log_of};
 use crate::machine::narrow;
 use rv_isa::Values;
+use std::alloc::Global;
 use std::process::Abort;
 
 // mul x9,x6,x7; div x5,x6,x7; div x8,x5,x7; div x10,x6,x7. The multiplication retires in cycle 6, and the second division leaves its
@@ -24,12 +25,26 @@ fn small() -> Values {
 }
 
 // Checks which lines of a log say what room is waited for.
-fn check_rooms(rt: &impl Abort, log: &str, expected: &[&str]) {
+fn check_lines(rt: &impl Abort, log: &str, expected: &[&str]) {
     let mut rooms = log.lines().filter(|line| line.ends_with("; "));
     for line in expected {
         assert_eq!(rt; rooms.next(), Some(*line));
     }
     assert_eq!(rt; rooms.next(), None);
+}
+
+// Checks them in the log of some cycles of a program, from a cycle on.
+fn check_rooms(
+    rt: &impl Abort,
+    alloc: Global,
+    values: Values,
+    program: &[u8],
+    first: u64,
+    cycles: u64,
+    expected: &[&str],
+) {
+    let log = log_of(rt, alloc, values, program, first, cycles);
+    check_lines(rt, log.as_str(), expected);
 }
 
 #[test]
@@ -40,8 +55,7 @@ fn a_label_says_what_room_the_oldest_fetched_word_waits_for_and_from_which_cycle
         "L\t3\t1\twait for room in the reorder buffer from cycle 4; ",
         "L\t3\t1\twait for a station of its kind from cycle 6; ",
     ];
-    let log = log_of(&rt, rt.alloc(), small(), DIVISIONS, 0, 9);
-    check_rooms(&rt, log.as_str(), &EXPECTED);
+    check_rooms(&rt, rt.alloc(), small(), DIVISIONS, 0, 9, &EXPECTED);
 }
 
 // Of the cycle before a log it is not known why it dispatched nothing.
@@ -51,20 +65,17 @@ fn a_log_begins_with_a_reason_of_its_own(rt: HostRuntime) {
         "L\t3\t1\twait for room in the reorder buffer from cycle 5; ",
         "L\t3\t1\twait for a station of its kind from cycle 6; ",
     ];
-    let log = log_of(&rt, rt.alloc(), small(), DIVISIONS, 5, 3);
-    check_rooms(&rt, log.as_str(), &EXPECTED);
+    check_rooms(&rt, rt.alloc(), small(), DIVISIONS, 5, 3, &EXPECTED);
 }
 
 #[test]
 fn a_store_waits_for_room_in_the_store_queue(rt: HostRuntime) {
     static EXPECTED: [&str; 1] = ["L\t1\t1\twait for room in the store queue from cycle 2; "];
-    let log = log_of(&rt, rt.alloc(), small(), STORES, 0, 4);
-    check_rooms(&rt, log.as_str(), &EXPECTED);
+    check_rooms(&rt, rt.alloc(), small(), STORES, 0, 4, &EXPECTED);
 }
 
 #[test]
 fn words_after_a_serialising_instruction_wait_for_it(rt: HostRuntime) {
     static EXPECTED: [&str; 1] = ["L\t2\t1\twait for a serialising instruction from cycle 3; "];
-    let log = log_of(&rt, rt.alloc(), narrow(), SERIAL, 0, 8);
-    check_rooms(&rt, log.as_str(), &EXPECTED);
+    check_rooms(&rt, rt.alloc(), narrow(), SERIAL, 0, 8, &EXPECTED);
 }

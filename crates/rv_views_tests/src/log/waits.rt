@@ -18,6 +18,20 @@ pub(crate) fn log_of(
     String::from_utf8(text).expect(rt, "ASCII")
 }
 
+// Checks that such a log has a line.
+fn check_log(
+    rt: &impl Abort,
+    alloc: Global,
+    values: Values,
+    program: &[u8],
+    first: u64,
+    cycles: u64,
+    line: &str,
+) {
+    let log = log_of(rt, alloc, values, program, first, cycles);
+    check_part(rt, log.as_str(), line);
+}
+
 // The machine that does one thing a cycle, with a reorder buffer for four, in which a division takes three cycles.
 fn short() -> Values {
     let mut values = narrow();
@@ -164,8 +178,7 @@ fn of_an_instruction_from_before_the_log_the_operand_is_not_known(rt: HostRuntim
         ),
     ];
     for (first, line) in &CASES {
-        let log = log_of(&rt, rt.alloc(), short(), DIVISION, *first, 100);
-        check_part(&rt, log.as_str(), line);
+        check_log(&rt, rt.alloc(), short(), DIVISION, *first, 100, line);
     }
 }
 
@@ -178,14 +191,13 @@ const LOAD: &[u8] = &[
 
 #[test]
 fn a_load_waits_for_a_unit_the_port_or_older_stores(rt: HostRuntime) {
-    let mut values = narrow();
-    values.kinds.alu.latency = 4;
-    let log = log_of(&rt, rt.alloc(), values, LOAD, 0, 23);
     let store = "L\t2\t1\tretired, cost 1, waited 4 for x5/t0 of 80000004, 11 for the head\n";
     let load =
         "L\t3\t1\tretired, x8 (s0) = 00000000, cost 1, waited 3 for x5/t0 of 80000004, 2 for a unit, the port or older stores, 10 for the head\n";
-    check_part(&rt, log.as_str(), store);
-    check_part(&rt, log.as_str(), load);
+    let mut values = narrow();
+    values.kinds.alu.latency = 4;
+    check_log(&rt, rt.alloc(), values, LOAD, 0, 23, store);
+    check_log(&rt, rt.alloc(), values, LOAD, 0, 23, load);
 }
 
 // Of each of these programs the third instruction waits for the results of the first two, at 80000000 and 80000004: a division and
@@ -222,8 +234,7 @@ fn the_operand_that_came_last_is_named_and_of_two_the_first(rt: HostRuntime) {
     let mut values = Values::standard();
     values.kinds.div.latency = 3;
     for (program, line) in &CASES {
-        let log = log_of(&rt, rt.alloc(), values, program, 0, 9);
-        check_part(&rt, log.as_str(), line);
+        check_log(&rt, rt.alloc(), values, program, 0, 9, line);
     }
 }
 
@@ -273,8 +284,7 @@ fn a_squashed_instruction_waited_for_what_did_not_come(rt: HostRuntime) {
     values.rob = 8;
     for (fourth, fifth, line) in &CASES {
         let program = flushed(&rt, rt.alloc(), *fourth, *fifth);
-        let log = log_of(&rt, rt.alloc(), values, program.as_slice(), 0, 100);
-        check_part(&rt, log.as_str(), line);
+        check_log(&rt, rt.alloc(), values, program.as_slice(), 0, 100, line);
     }
 }
 
@@ -283,9 +293,8 @@ pub(crate) const SERIAL: &[u8] = &[0xb3, 0x42, 0x73, 0x02, 0x73, 0x10, 0x00, 0x3
 
 #[test]
 fn an_instruction_without_a_unit_waits_for_the_head(rt: HostRuntime) {
-    let log = log_of(&rt, rt.alloc(), short(), SERIAL, 0, 8);
     let csr = "L\t1\t1\tretired, waited 4 for the head\n";
     let next = "L\t2\t1\tsquashed, waited 4 to dispatch\n";
-    check_part(&rt, log.as_str(), csr);
-    check_part(&rt, log.as_str(), next);
+    check_log(&rt, rt.alloc(), short(), SERIAL, 0, 8, csr);
+    check_log(&rt, rt.alloc(), short(), SERIAL, 0, 8, next);
 }

@@ -4,7 +4,6 @@ use crate::picture::rows::fetched;
 use rv_drawing::{Window, write_picture_text};
 use std::alloc::Global;
 use std::process::Abort;
-use std::test::Fail;
 
 const WINDOW: Window = Window {
     first: 0,
@@ -55,17 +54,15 @@ fn drawn(rt: &impl Abort, alloc: Global, line: &str) -> String {
 }
 
 // Checks what of a line stands in those columns.
-fn check_label(rt: &impl Abort, alloc: Global, line: &str, field: &str) -> Result<(), Fail> {
-    let row = format!(in alloc; "\n80000000 {field}-                F\n")?;
+fn check_label(rt: &impl Abort, alloc: Global, line: &str, field: &str) {
+    let row = format!(in alloc; "\n80000000 {field}-                F\n").expect(rt, "a text");
     let text = drawn(rt, alloc, line);
     check_part(rt, text.as_str(), row.as_str());
-    Ok(())
 }
 
 #[test]
-fn a_long_label_leaves_room_for_its_statement(rt: HostRuntime) -> Result<(), Fail> {
+fn a_long_label_leaves_room_for_its_statement(rt: HostRuntime) {
     for (line, field) in &CASES {
-        check_label(&rt, rt.alloc(), line, field)?;
+        check_label(&rt, rt.alloc(), line, field);
     }
-    Ok(())
 }

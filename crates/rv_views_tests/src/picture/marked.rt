@@ -1,7 +1,7 @@
 use crate::checks::{check_bytes, check_count, check_none, check_parts};
 use crate::machine::listing;
-use crate::picture::rows::{INTERRUPTS, LINES, WINDOW, passages};
-use rv_drawing::{Mark, write_picture_svg, write_picture_text};
+use crate::picture::rows::{INTERRUPTS, LINES, WINDOW, drawn_rows, passages};
+use rv_drawing::{Mark, write_picture_text};
 use std::alloc::Global;
 use std::process::Abort;
 
@@ -58,19 +58,16 @@ fn the_letters_of_the_critical_path_are_in_lower_case(rt: HostRuntime) {
 
 // The SVG of the passages in the window, with marks or none.
 fn drawn(rt: &impl Abort, alloc: Global, marks: Option<&[Mark]>) -> String {
-    let listing = listing(rt, alloc, &LINES);
-    let mut text = Vec::new(alloc);
-    write_picture_svg(
+    drawn_rows(
+        rt,
+        alloc,
         &passages(),
         &INTERRUPTS,
         &[],
         marks,
-        &listing,
+        &LINES,
         WINDOW,
-        &mut text,
     )
-    .expect(rt, "room");
-    String::from_utf8(text).expect(rt, "ASCII")
 }
 
 // A marked box of each letter, two that are not marked beside them, the style and the entry of the legend.

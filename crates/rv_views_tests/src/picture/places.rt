@@ -1,7 +1,6 @@
 use crate::checks::{check_count, check_end, check_parts};
-use crate::machine::listing;
-use crate::picture::rows::fetched;
-use rv_drawing::{Window, write_picture_svg};
+use crate::picture::rows::{drawn_rows, fetched};
+use rv_drawing::Window;
 use rv_passage::Passage;
 use std::alloc::Global;
 use std::process::Abort;
@@ -34,10 +33,7 @@ fn passages() -> [Passage; 42] {
 }
 
 fn drawn(rt: &impl Abort, alloc: Global) -> String {
-    let listing = listing(rt, alloc, &[]);
-    let mut text = Vec::new(alloc);
-    write_picture_svg(&passages(), &[], &[], None, &listing, WINDOW, &mut text).expect(rt, "room");
-    String::from_utf8(text).expect(rt, "ASCII")
+    drawn_rows(rt, alloc, &passages(), &[], &[], None, &[], WINDOW)
 }
 
 #[test]
@@ -62,8 +58,6 @@ const SENTENCE: &str = "<g transform='translate(0 76)'>\n\
 
 #[test]
 fn a_sentence_stands_below_the_legend_where_the_run_ended_before_the_window(rt: HostRuntime) {
-    let listing = listing(&rt, rt.alloc(), &[]);
-    let mut svg = Vec::new(rt.alloc());
-    write_picture_svg(&[], &[], &[], None, &listing, OVER, &mut svg).expect(&rt, "room");
-    check_end(&rt, svg.as_slice(), SENTENCE.as_bytes());
+    let svg = drawn_rows(&rt, rt.alloc(), &[], &[], &[], None, &[], OVER);
+    check_end(&rt, svg.as_bytes(), SENTENCE.as_bytes());
 }

@@ -1,7 +1,8 @@
-use crate::checks::{check_none, check_part, check_parts, check_text};
+use crate::checks::{check, check_none, check_part, check_parts, check_text};
 use crate::machine::listing;
 use rv_decode::Decoded;
-use rv_drawing::{Window, write_picture_svg, write_picture_text};
+use rv_drawing::{Mark, Window, write_picture_svg, write_picture_text};
+use rv_hardware::Stall;
 use rv_isa::{Cause, Issue, Reg};
 use rv_passage::{Ending, Passage, Producers};
 use std::alloc::Global;
@@ -107,22 +108,39 @@ fn written(rt: &impl Abort, alloc: Global, interrupts: &[u64], stopped: Option<u
     String::from_utf8(text).expect(rt, "ASCII")
 }
 
-// The SVG of them.
+// The SVG of rows in a window, and of interrupts, with what the oldest fetched word waits for in each cycle and the marks, if it has any,
+// of a program with these lines.
+pub(crate) fn drawn_rows(
+    rt: &impl Abort,
+    alloc: Global,
+    rows: &[Passage],
+    interrupts: &[u64],
+    stalls: &[Option<Stall>],
+    marks: Option<&[Mark]>,
+    lines: &[&str],
+    window: Window,
+) -> String {
+    let listing = listing(rt, alloc, lines);
+    let mut text = Vec::new(alloc);
+    write_picture_svg(rows, interrupts, stalls, marks, &listing, window, &mut text).expect(
+        rt, "room",
+    );
+    String::from_utf8(text).expect(rt, "ASCII")
+}
+
+// The SVG of the passages in the window.
 fn drawn(rt: &impl Abort, alloc: Global, interrupts: &[u64], stopped: Option<u64>) -> String {
     let window = Window { stopped, ..WINDOW };
-    let listing = listing(rt, alloc, &LINES);
-    let mut text = Vec::new(alloc);
-    write_picture_svg(
+    drawn_rows(
+        rt,
+        alloc,
         &passages(),
         interrupts,
         &[],
         None,
-        &listing,
+        &LINES,
         window,
-        &mut text,
     )
-    .expect(rt, "room");
-    String::from_utf8(text).expect(rt, "ASCII")
 }
 
 #[test]
@@ -213,12 +231,11 @@ fn check_box(
     alloc: Global,
     svg: &str,
     (class, column, name, cycle, letter): (&str, u32, &str, u32, &str),
-) -> Result<(), Fail> {
+) {
     let shown = format!(in alloc;
         "<g class='p {class}' transform='translate({column} 0)'><title>{name} in cycle {cycle}</title><rect width='14' height='18'/><text x='7' y='13'>{letter}</text></g>\n"
-    )?;
+    ).expect(rt, "a text");
     check_part(rt, svg, shown.as_str());
-    Ok(())
 }
 
 fn check_meaning(
@@ -226,39 +243,32 @@ fn check_meaning(
     alloc: Global,
     svg: &str,
     (place, class, letter, name): (&str, &str, &str, &str),
-) -> Result<(), Fail> {
+) {
     let meaning = format!(in alloc;
         "<g transform='translate({place})'><g class='p {class}'><rect width='14' height='18'/><text x='7' y='13'>{letter}</text></g><text x='20' y='13'>{name}</text></g>\n"
-    )?;
+    ).expect(rt, "a text");
     check_part(rt, svg, meaning.as_str());
-    Ok(())
 }
 
 #[test]
-fn each_kind_of_cell_has_a_box_and_a_meaning(rt: HostRuntime) -> Result<(), Fail> {
+fn each_kind_of_cell_has_a_box_and_a_meaning(rt: HostRuntime) {
     let svg = drawn(&rt, rt.alloc(), &INTERRUPTS, None);
     for kind in &BOXES {
-        check_box(&rt, rt.alloc(), svg.as_str(), *kind)?;
+        check_box(&rt, rt.alloc(), svg.as_str(), *kind);
     }
     for kind in &MEANINGS {
-        check_meaning(&rt, rt.alloc(), svg.as_str(), *kind)?;
+        check_meaning(&rt, rt.alloc(), svg.as_str(), *kind);
     }
-    Ok(())
 }
 
 // What a rule of the style says of a class's boxes.
-fn colour_of<'a>(
-    rt: &impl Abort,
-    alloc: Global,
-    svg: &'a str,
-    class: &str,
-) -> Result<&'a str, Fail> {
-    let rule = format!(in alloc; "\n.{class} rect{{fill:")?;
+fn colour_of<'a>(rt: &impl Abort, alloc: Global, svg: &'a str, class: &str) -> &'a str {
+    let rule = format!(in alloc; "\n.{class} rect{{fill:").expect(rt, "a text");
     let (_, after) = svg
         .split_once(rule.as_str())
         .expect(rt, "a rule for the class");
     let (colour, _) = after.split_once("}").expect(rt, "the end of the rule");
-    Ok(colour)
+    colour
 }
 
 #[test]
@@ -267,8 +277,8 @@ fn each_kind_of_cell_has_a_colour_of_its_own(rt: HostRuntime) -> Result<(), Fail
     let svg = drawn(&rt, alloc, &INTERRUPTS, None);
     let mut colours = Vec::new(alloc);
     for (class, ..) in &BOXES {
-        let colour = colour_of(&rt, alloc, svg.as_str(), class)?;
-        assert!(&rt; !colours.contains(&colour));
+        let colour = colour_of(&rt, alloc, svg.as_str(), class);
+        check(&rt, !colours.contains(&colour));
         colours.push(colour)?;
     }
     Ok(())

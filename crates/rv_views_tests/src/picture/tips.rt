@@ -1,21 +1,11 @@
 use crate::checks::{check_none, check_part, check_text};
-use crate::machine::listing;
-use crate::picture::rows::fetched;
+use crate::picture::rows::{WINDOW, drawn_rows, fetched};
 use rv_decode::Decoded;
-use rv_drawing::{Window, write_picture_svg};
 use rv_hardware::Stall;
 use rv_isa::{Cause, Issue, Reg};
 use rv_passage::{Ending, Passage, Producer, Producers};
 use std::alloc::Global;
 use std::process::Abort;
-use std::test::Fail;
-
-// Ten cycles from cycle 10 on.
-const WINDOW: Window = Window {
-    first: 10,
-    cycles: 10,
-    stopped: None,
-};
 
 // beq x5,x6,8; addi x1,x0,5; add x8,x5,x6; mul x8,x5,x6; div x8,x5,x6; lw x7,0(x5); csrrw x0,mscratch,x0; mret.
 const BRANCH: u32 = 0x0062_8463;
@@ -59,10 +49,7 @@ fn retired(word: u32, next: u32) -> Passage {
 
 // The SVG of some instructions, with what the oldest fetched word waits for in each cycle.
 fn drawn(rt: &impl Abort, alloc: Global, rows: &[Passage], stalls: &[Option<Stall>]) -> String {
-    let listing = listing(rt, alloc, &[]);
-    let mut text = Vec::new(alloc);
-    write_picture_svg(rows, &[], stalls, None, &listing, WINDOW, &mut text).expect(rt, "room");
-    String::from_utf8(text).expect(rt, "ASCII")
+    drawn_rows(rt, alloc, rows, &[], stalls, None, &[], WINDOW)
 }
 
 // Checks that an instruction's row has one tip, and which.
@@ -100,40 +87,39 @@ fn the_tip_of_a_row_says_what_was_predicted_or_the_cause_of_a_trap(rt: HostRunti
     check_tip(&rt, alloc, trapped, "trapped, cause 5");
 }
 
+// Checks that an instruction's row has no tip.
+fn check_no_tip(rt: &impl Abort, alloc: Global, row: Passage) {
+    static TIPS: [&str; 2] = ["</g>\n<title>", "predicted"];
+    let svg = drawn(rt, alloc, &[row], &[]);
+    check_none(rt, svg.as_str(), &TIPS);
+}
+
 // Only branches and jumps have predictions of their own: all others go on at the next word, but for MRET.
 #[test]
 fn other_rows_have_no_tip(rt: HostRuntime) {
-    static TIPS: [&str; 2] = ["</g>\n<title>", "predicted"];
-    let rows = [
-        retired(ADDITION, 0x8000_0014),
-        retired(RETURN, 0x8000_0100),
-        dispatched(LOAD),
-    ];
-    for row in rows {
-        let svg = drawn(&rt, rt.alloc(), &[row], &[]);
-        check_none(&rt, svg.as_str(), &TIPS);
-    }
+    check_no_tip(&rt, rt.alloc(), retired(ADDITION, 0x8000_0014));
+    check_no_tip(&rt, rt.alloc(), retired(RETURN, 0x8000_0100));
+    check_no_tip(&rt, rt.alloc(), dispatched(LOAD));
 }
 
 // Checks that a cell has a tip of a cycle.
-fn check_cell(
-    rt: &impl Abort,
-    alloc: Global,
-    svg: &str,
-    tip: &str,
-    cycle: u32,
-) -> Result<(), Fail> {
-    let shown = format!(in alloc; "<title>{tip} in cycle {cycle}</title>")?;
+fn check_cell(rt: &impl Abort, alloc: Global, svg: &str, tip: &str, cycle: u32) {
+    let shown = format!(in alloc; "<title>{tip} in cycle {cycle}</title>").expect(rt, "a text");
     check_part(rt, svg, shown.as_str());
-    Ok(())
 }
 
-// Checks that cells have these tips of these cycles.
-fn check_tips(rt: &impl Abort, alloc: Global, svg: &str, tips: &[(&str, u32)]) -> Result<(), Fail> {
+// Checks that cells of some instructions have these tips of these cycles.
+fn check_tips(
+    rt: &impl Abort,
+    alloc: Global,
+    rows: &[Passage],
+    stalls: &[Option<Stall>],
+    tips: &[(&str, u32)],
+) {
+    let svg = drawn(rt, alloc, rows, stalls);
     for (tip, cycle) in tips {
-        check_cell(rt, alloc, svg, tip, *cycle)?;
+        check_cell(rt, alloc, svg.as_str(), tip, *cycle);
     }
-    Ok(())
 }
 
 // What the oldest fetched word waits for from cycle 10 on.
@@ -179,17 +165,15 @@ fn oldest() -> Passage {
 }
 
 #[test]
-fn the_oldest_fetched_word_waits_for_room(rt: HostRuntime) -> Result<(), Fail> {
-    let svg = drawn(&rt, rt.alloc(), &[oldest()], &STALLS);
-    check_tips(&rt, rt.alloc(), svg.as_str(), &ROOMS)
+fn the_oldest_fetched_word_waits_for_room(rt: HostRuntime) {
+    check_tips(&rt, rt.alloc(), &[oldest()], &STALLS, &ROOMS);
 }
 
 #[test]
-fn the_others_wait_for_the_oldest_fetched_word(rt: HostRuntime) -> Result<(), Fail> {
+fn the_others_wait_for_the_oldest_fetched_word(rt: HostRuntime) {
     let rows = [oldest(), fetched(8, 0x8000_0014, Some(ADDITION), 11)];
-    let svg = drawn(&rt, rt.alloc(), &rows, &STALLS);
-    check_tips(&rt, rt.alloc(), svg.as_str(), &ROOMS)?;
-    check_tips(&rt, rt.alloc(), svg.as_str(), &TURNS)
+    check_tips(&rt, rt.alloc(), &rows, &STALLS, &ROOMS);
+    check_tips(&rt, rt.alloc(), &rows, &STALLS, &TURNS);
 }
 
 fn producer(register: u8, pc: u32, broadcast: u64) -> Option<Producer> {
@@ -202,9 +186,7 @@ fn producer(register: u8, pc: u32, broadcast: u64) -> Option<Producer> {
 }
 
 #[test]
-fn a_dispatched_one_waits_for_results_and_then_for_a_unit_the_bus_and_the_head(
-    rt: HostRuntime,
-) -> Result<(), Fail> {
+fn a_dispatched_one_waits_for_results_and_then_for_a_unit_the_bus_and_the_head(rt: HostRuntime) {
     static TIPS: [(&str, u32); 6] = [
         ("wait for x5/t0 of 80000000 and x6/t1 of 80000004", 12),
         ("wait for x5/t0 of 80000000 and x6/t1 of 80000004", 13),
@@ -223,18 +205,17 @@ fn a_dispatched_one_waits_for_results_and_then_for_a_unit_the_bus_and_the_head(
         ending: Ending::Squashed { cycle: 20 },
         ..dispatched(SUM)
     };
-    let svg = drawn(&rt, rt.alloc(), &[sum], &[]);
-    check_tips(&rt, rt.alloc(), svg.as_str(), &TIPS)
+    check_tips(&rt, rt.alloc(), &[sum], &[], &TIPS);
 }
 
 // Checks what an instruction waits for in cycle 12.
-fn check_wait(rt: &impl Abort, alloc: Global, row: Passage, tip: &str) -> Result<(), Fail> {
+fn check_wait(rt: &impl Abort, alloc: Global, row: Passage, tip: &str) {
     let svg = drawn(rt, alloc, &[row], &[]);
-    check_cell(rt, alloc, svg.as_str(), tip, 12)
+    check_cell(rt, alloc, svg.as_str(), tip, 12);
 }
 
 #[test]
-fn what_waits_for_no_result_waits_for_what_its_kind_needs(rt: HostRuntime) -> Result<(), Fail> {
+fn what_waits_for_no_result_waits_for_what_its_kind_needs(rt: HostRuntime) {
     let alloc = rt.alloc();
     let before = Passage {
         dispatched: Some(9),
@@ -247,11 +228,11 @@ fn what_waits_for_no_result_waits_for_what_its_kind_needs(rt: HostRuntime) -> Re
         ..dispatched(SUM)
     };
     let of_load = "wait for a unit, the port or older stores";
-    check_wait(&rt, alloc, dispatched(LOAD), of_load)?;
-    check_wait(&rt, alloc, dispatched(PRODUCT), "wait for a unit")?;
-    check_wait(&rt, alloc, dispatched(QUOTIENT), "wait for a unit")?;
-    check_wait(&rt, alloc, dispatched(CSR), "wait for the head")?;
+    check_wait(&rt, alloc, dispatched(LOAD), of_load);
+    check_wait(&rt, alloc, dispatched(PRODUCT), "wait for a unit");
+    check_wait(&rt, alloc, dispatched(QUOTIENT), "wait for a unit");
+    check_wait(&rt, alloc, dispatched(CSR), "wait for the head");
     let unknown = "wait for operands, a unit or the head";
-    check_wait(&rt, alloc, before, unknown)?;
-    check_wait(&rt, alloc, in_first, "wait for a unit")
+    check_wait(&rt, alloc, before, unknown);
+    check_wait(&rt, alloc, in_first, "wait for a unit");
 }

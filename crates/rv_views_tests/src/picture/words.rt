@@ -1,4 +1,4 @@
-use crate::checks::{check_bytes, check_count};
+use crate::checks::{check, check_bytes, check_count};
 use crate::machine::{described, listing, no_arrivals, pipeline};
 use rv_arch::Stop;
 use rv_drawing::Mark;
@@ -166,7 +166,7 @@ const STALE: [u8; 12] = [
 #[test]
 fn the_row_whose_stale_word_ended_the_run_says_so(rt: HostRuntime) {
     let (end, text) = picture_of(&rt, rt.alloc(), &STALE, 0, Rows::Unsquashed, None);
-    assert!(&rt; end.stop == Stop::Stale(0x8000_0008));
+    check(&rt, end.stop == Stop::Stale(0x8000_0008));
     let text = String::from_utf8(text).expect(&rt, "ASCII");
     let row = "\n80000008 00100113                         stale            ";
     check_count(&rt, text.as_str(), row, 1);

@@ -1,3 +1,4 @@
+use crate::checks::check;
 use crate::machine::{described, no_arrivals};
 use rv_core::{Pipeline, run};
 use rv_front::NotTaken;
@@ -12,10 +13,13 @@ const LIMIT: u64 = 100;
 // Whether steps come in every second cycle, after so many.
 fn follow(steps: &[Step], before: usize) -> bool {
     let mut stamp = (before as u64).wrapping_mul(2);
-    steps.iter().all(|step| {
+    for step in steps {
         stamp = stamp.wrapping_add(2);
-        step.stamp() == stamp
-    })
+        if step.stamp() != stamp {
+            return false;
+        }
+    }
+    true
 }
 
 // The steps, the cycles, the busy cycles and the waits for fetch of a run, whether memory cut it short or not.
@@ -53,7 +57,7 @@ fn a_run_that_memory_cut_short_and_a_second_one_are_the_whole(rt: HostRuntime) -
             &arrivals,
             LIMIT.saturating_sub(cycles),
         );
-        assert!(&rt; follow(part.as_slice(), steps));
+        check(&rt, follow(part.as_slice(), steps));
         steps = part.len().wrapping_add(steps);
         cycles = more.wrapping_add(cycles);
         busy = more_busy.wrapping_add(busy);

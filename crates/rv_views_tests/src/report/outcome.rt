@@ -1,4 +1,4 @@
-use crate::checks::check_end;
+use crate::checks::{check, check_end, check_start};
 use crate::machine::{described, no_arrivals, pipeline};
 use rv_arch::Stop;
 use rv_core::{Outcome, Pipeline, run};
@@ -8,7 +8,6 @@ use rv_report::{Options, write_report};
 use rv_watch::Simulated;
 use std::alloc::Global;
 use std::process::Abort;
-use std::test::Fail;
 
 // addi x1,x0,5, and ebreak.
 const ADDITION: [u8; 8] = [0x93, 0x00, 0x50, 0x00, 0x73, 0x00, 0x10, 0x00];
@@ -26,11 +25,11 @@ fn loaded(rt: &impl Abort, alloc: Global) -> Pipeline {
 }
 
 // What comes of a run of up to a hundred cycles.
-fn outcome_of(rt: &impl Abort, alloc: Global, pipeline: &mut Pipeline) -> Result<Outcome, Fail> {
+fn outcome_of(rt: &impl Abort, alloc: Global, pipeline: &mut Pipeline) -> Outcome {
     let arrivals = no_arrivals(rt, alloc);
     match run(alloc, pipeline, &mut NotTaken, &arrivals, 100) {
-        Ok(outcome) => Ok(outcome),
-        Err(_) => Err(Fail::from("no memory for the steps")),
+        Ok(outcome) => outcome,
+        Err(_) => panic!(rt; "no memory for the steps"),
     }
 }
 
@@ -43,22 +42,21 @@ traps 1
 ";
 
 #[test]
-fn the_outcome_of_a_run_is_reported_with_its_steps(rt: HostRuntime) -> Result<(), Fail> {
+fn the_outcome_of_a_run_is_reported_with_its_steps(rt: HostRuntime) {
     let alloc = rt.alloc();
     let mut pipeline = loaded(&rt, alloc);
-    let outcome = outcome_of(&rt, alloc, &mut pipeline)?;
+    let outcome = outcome_of(&rt, alloc, &mut pipeline);
     let mut report = Vec::new(alloc);
-    write_report(&outcome, &pipeline.shown(), &OPTIONS, &mut report)?;
-    assert!(&rt; report.as_slice().starts_with(FIRST_LINES));
+    write_report(&outcome, &pipeline.shown(), &OPTIONS, &mut report).expect(&rt, "room");
+    check_start(&rt, report.as_slice(), FIRST_LINES);
     check_end(&rt, report.as_slice(), b"m 80000000 00500093\n");
-    Ok(())
 }
 
 // Checks how many steps the next cycle of a pipeline reports, and what stops it.
 fn check_cycle(rt: &impl Abort, pipeline: &mut Pipeline, steps: usize, stop: Option<Stop>) {
     let report = pipeline.cycle(&mut NotTaken, Lines::default());
-    assert!(rt; report.steps.len() == steps);
-    assert!(rt; report.stop == stop);
+    check(rt, report.steps.len() == steps);
+    check(rt, report.stop == stop);
 }
 
 #[test]

@@ -1,4 +1,4 @@
-use crate::checks::{check_bytes, check_end};
+use crate::checks::{check, check_bytes, check_end, check_start};
 use crate::machine::{described, pipeline};
 use rv_arch::{RefOutcome, Reference, Stop, run_reference};
 use rv_front::NotTaken;
@@ -118,7 +118,7 @@ fn run_report(rt: &impl Abort, alloc: Global) -> Result<(Stop, Vec<u8>), Fail> {
 fn each_line_of_a_run_s_state_has_its_own_value(rt: HostRuntime) -> Result<(), Fail> {
     let lines = state_lines(rt.alloc())?;
     let (stop, report) = run_report(&rt, rt.alloc())?;
-    assert!(&rt; stop == Stop::Limit);
+    check(&rt, stop == Stop::Limit);
     assert!(&rt; report.as_slice().starts_with(b"stop limit\ncycles 1000\n"));
     check_end(&rt, report.as_slice(), lines.as_slice());
     Ok(())
@@ -203,7 +203,7 @@ stall store 37
 pc 80000000
 x0 00000000
 ";
-    assert!(&rt; report.as_slice().starts_with(lines));
+    check_start(&rt, report.as_slice(), lines);
     Ok(())
 }
 

@@ -1,4 +1,4 @@
-use crate::checks::{check_bytes, check_end};
+use crate::checks::{check, check_bytes, check_end, check_start};
 use crate::machine::{described, narrow};
 use crate::report::tables::NO_RUN;
 use rv_arch::Stop;
@@ -7,7 +7,6 @@ use rv_report::{ComparedRun, TriedRun, in_order, write_sensitivity};
 use rv_sensitivity::{Change, KeyValue, Setting, Settings, all_trials, changes, neighbours};
 use std::alloc::Global;
 use std::process::Abort;
-use std::test::Fail;
 
 // A run of so many cycles that ended by a breakpoint.
 fn run_of(cycles: u64) -> ComparedRun {
@@ -19,21 +18,26 @@ fn run_of(cycles: u64) -> ComparedRun {
 
 // Runs of the neighbours of a machine, which take these cycles in turn, and then so many, up to the limit.
 fn runs_of(
+    rt: &impl Abort,
     alloc: Global,
     machine: &Description,
     own: &[Change],
     cycles: u64,
     tried: &[u64],
-) -> Result<Vec<TriedRun>, Fail> {
+) -> Vec<TriedRun> {
     let mut runs = Vec::new(alloc);
-    for neighbour in neighbours(alloc, machine, own)?.as_slice() {
+    for neighbour in neighbours(alloc, machine, own)
+        .expect(rt, "room")
+        .as_slice()
+    {
         runs.push(TriedRun {
             neighbour: *neighbour,
             cycles: tried.get(runs.len()).copied().unwrap_or(cycles),
             stop: Stop::Limit,
-        })?;
+        })
+        .expect(rt, "room");
     }
-    Ok(runs)
+    runs
 }
 
 // The table of a machine that takes so many cycles, and whose neighbours take these in turn, and then as many as it does
@@ -45,18 +49,18 @@ fn table_of(
     own: &[Change],
     cycles: u64,
     tried: &[u64],
-) -> Result<Vec<u8>, Fail> {
+) -> Vec<u8> {
     let machine = described(rt, values);
-    let runs = runs_of(alloc, &machine, own, cycles, tried)?;
-    let ordered = in_order(alloc, runs.as_slice())?;
+    let runs = runs_of(rt, alloc, &machine, own, cycles, tried);
+    let ordered = in_order(alloc, runs.as_slice()).expect(rt, "room");
     let mut table = Vec::new(alloc);
-    write_sensitivity(&machine, &run_of(cycles), ordered.as_slice(), &mut table)?;
-    Ok(table)
+    write_sensitivity(&machine, &run_of(cycles), ordered.as_slice(), &mut table).expect(rt, "room");
+    table
 }
 
 #[test]
-fn the_standard_machine_has_these_neighbours(rt: HostRuntime) -> Result<(), Fail> {
-    let table = table_of(&rt, rt.alloc(), Values::standard(), &[], 7, &[])?;
+fn the_standard_machine_has_these_neighbours(rt: HostRuntime) {
+    let table = table_of(&rt, rt.alloc(), Values::standard(), &[], 7, &[]);
     let lines = "\
 key\tfrom\tto\tcycles\tchange\tstop
 -\t-\t-\t7\t0\tbreakpoint
@@ -90,7 +94,6 @@ predictor.kind\tbimodal\tbackward_taken\t7\t0\tlimit
 predictor.entries\t64\t128\t7\t0\tlimit
 ";
     check_bytes(&rt, table.as_slice(), lines.as_bytes());
-    Ok(())
 }
 
 // The machine at the ends of all ranges: each size and width at its most, each latency and cost at its least.
@@ -121,8 +124,8 @@ fn greatest() -> Values {
 }
 
 #[test]
-fn a_machine_at_the_ends_of_its_ranges_has_its_choices_alone(rt: HostRuntime) -> Result<(), Fail> {
-    let table = table_of(&rt, rt.alloc(), greatest(), &[], 7, &[])?;
+fn a_machine_at_the_ends_of_its_ranges_has_its_choices_alone(rt: HostRuntime) {
+    let table = table_of(&rt, rt.alloc(), greatest(), &[], 7, &[]);
     let lines = "\
 key\tfrom\tto\tcycles\tchange\tstop
 -\t-\t-\t7\t0\tbreakpoint
@@ -131,12 +134,11 @@ predictor.kind\tnot_taken\tbackward_taken\t7\t0\tlimit
 predictor.kind\tnot_taken\tbimodal\t7\t0\tlimit
 ";
     check_bytes(&rt, table.as_slice(), lines.as_bytes());
-    Ok(())
 }
 
 // Near the ends, a number is no more than the most, and a half is rounded up.
 #[test]
-fn a_number_near_its_end_is_tried_at_the_end(rt: HostRuntime) -> Result<(), Fail> {
+fn a_number_near_its_end_is_tried_at_the_end(rt: HostRuntime) {
     let mut values = greatest();
     values.rob = 200;
     values.commit_width = 5;
@@ -144,7 +146,7 @@ fn a_number_near_its_end_is_tried_at_the_end(rt: HostRuntime) -> Result<(), Fail
     values.kinds.mem.pipelined = false;
     values.cache.hit = 3;
     values.cache.miss = 1;
-    let table = table_of(&rt, rt.alloc(), values, &[], 7, &[])?;
+    let table = table_of(&rt, rt.alloc(), values, &[], 7, &[]);
     let lines = "\
 key\tfrom\tto\tcycles\tchange\tstop
 -\t-\t-\t7\t0\tbreakpoint
@@ -159,12 +161,11 @@ predictor.kind\tnot_taken\tbackward_taken\t7\t0\tlimit
 predictor.kind\tnot_taken\tbimodal\t7\t0\tlimit
 ";
     check_bytes(&rt, table.as_slice(), lines.as_bytes());
-    Ok(())
 }
 
 // The fewest cycles first, ties in their order. A change is rounded to the nearest thousandth, and half of one away from 0.
 #[test]
-fn a_table_begins_with_what_gains_most(rt: HostRuntime) -> Result<(), Fail> {
+fn a_table_begins_with_what_gains_most(rt: HostRuntime) {
     const NOT_TAKEN: Change = Change::Predictor(PredictorKind::NotTaken);
     const OWN: [Change; 6] = [
         Change::Number(NumberKey::Rob, 1),
@@ -176,7 +177,7 @@ fn a_table_begins_with_what_gains_most(rt: HostRuntime) -> Result<(), Fail> {
         Change::Number(NumberKey::Rob, 257),
     ];
     const TRIED: [u64; 7] = [2000, 1999, 1444, 4000, 1444, 2001, 1];
-    let table = table_of(&rt, rt.alloc(), greatest(), &OWN, 2000, &TRIED)?;
+    let table = table_of(&rt, rt.alloc(), greatest(), &OWN, 2000, &TRIED);
     let lines = "\
 key\tfrom\tto\tcycles\tchange\tstop
 -\t-\t-\t2000\t0\tbreakpoint
@@ -189,27 +190,24 @@ rob\t256\t3\t2001\t+1\tlimit
 rob\t256\t1\t4000\t+1000\tlimit
 ";
     check_bytes(&rt, table.as_slice(), lines.as_bytes());
-    Ok(())
 }
 
 #[test]
-fn less_than_half_of_a_thousandth_is_no_change(rt: HostRuntime) -> Result<(), Fail> {
-    let odd = table_of(&rt, rt.alloc(), greatest(), &[], 2001, &[2000, 2002, 0])?;
+fn less_than_half_of_a_thousandth_is_no_change(rt: HostRuntime) {
+    let odd = table_of(&rt, rt.alloc(), greatest(), &[], 2001, &[2000, 2002, 0]);
     let end = b"\t2000\t0\tlimit\npredictor.kind\tnot_taken\tbackward_taken\t2002\t0\tlimit\n";
     check_end(&rt, odd.as_slice(), end);
-    Ok(())
 }
 
 #[test]
-fn a_run_of_no_cycles_has_no_change(rt: HostRuntime) -> Result<(), Fail> {
-    let none = table_of(&rt, rt.alloc(), greatest(), &[], 0, &[])?;
+fn a_run_of_no_cycles_has_no_change(rt: HostRuntime) {
+    let none = table_of(&rt, rt.alloc(), greatest(), &[], 0, &[]);
     let beginning = b"key\tfrom\tto\tcycles\tchange\tstop\n-\t-\t-\t0\t-\tbreakpoint\n";
-    assert!(&rt; none.as_slice().starts_with(beginning));
-    Ok(())
+    check_start(&rt, none.as_slice(), beginning);
 }
 
 #[test]
-fn each_trial_stands_once_and_settings_make_changes(rt: HostRuntime) -> Result<(), Fail> {
+fn each_trial_stands_once_and_settings_make_changes(rt: HostRuntime) {
     const SETTINGS: Settings = Settings {
         first: Some(Setting {
             index: 8,
@@ -226,11 +224,10 @@ fn each_trial_stands_once_and_settings_make_changes(rt: HostRuntime) -> Result<(
             value: KeyValue::Number(4096),
         }),
     };
-    assert!(&rt; all_trials().len() == 36);
-    let own = changes(rt.alloc(), &SETTINGS)?;
-    let table = table_of(&rt, rt.alloc(), narrow(), own.as_slice(), 7, &[])?;
+    check(&rt, all_trials().len() == 36);
+    let own = changes(rt.alloc(), &SETTINGS).expect(&rt, "room");
+    let table = table_of(&rt, rt.alloc(), narrow(), own.as_slice(), 7, &[]);
     let end = b"\nrob\t16\t64\t7\t0\tlimit\ndiv.pipelined\tfalse\ttrue\t7\t0\tlimit\n";
     check_end(&rt, table.as_slice(), end);
-    assert!(&rt; own.len() == 2);
-    Ok(())
+    check(&rt, own.len() == 2);
 }

@@ -1,4 +1,4 @@
-use crate::checks::{check_bytes, check_end};
+use crate::checks::{check, check_bytes, check_end, check_start};
 use crate::machine::{described, no_arrivals, pipeline};
 use rv_arch::Stop;
 use rv_core::Pipeline;
@@ -12,7 +12,6 @@ use rv_report::{
 };
 use std::alloc::Global;
 use std::process::Abort;
-use std::test::Fail;
 
 // A table without further columns, of runs up to a hundred cycles.
 const NOTHING_SHOWN: Columns<Option<Shown>> = Columns {
@@ -109,14 +108,14 @@ const STALE_RUN: ComparedRun = ComparedRun {
 };
 
 #[test]
-fn a_table_has_a_line_for_each_run(rt: HostRuntime) -> Result<(), Fail> {
+fn a_table_has_a_line_for_each_run(rt: HostRuntime) {
     let mut without_steps = STALE_RUN;
     without_steps.totals.stop = Stop::Limit;
     without_steps.totals.steps = NO_STEPS;
     let mut table = Vec::new(rt.alloc());
-    let names = [Vec::from_slice(rt.alloc(), b"a\tb")?];
+    let names = [Vec::from_slice(rt.alloc(), b"a\tb").expect(&rt, "room")];
     let runs = [STALE_RUN, without_steps];
-    write_table(&NOTHING_SHOWN, &names, &runs, &mut table)?;
+    write_table(&NOTHING_SHOWN, &names, &runs, &mut table).expect(&rt, "room");
     let lines = "\
 number\tcycles\tretired\tcpi\ttraps\tinterrupts\tbusy\tstall_fetch\tstall_serial\tstall_rob\tstall_station\tstall_store\t\
 mispredicted\tsquashed\tmisses\tname\tstop\tipc\tlongest_gap\tbranches\tloads\tdrains\thits\twrite_backs
@@ -124,48 +123,39 @@ mispredicted\tsquashed\tmisses\tname\tstop\tipc\tlongest_gap\tbranches\tloads\td
 2\t17\t0\t-\t0\t0\t2\t1\t2\t3\t4\t5\t8\t9\t10\t-\tlimit\t0.000\t4\t11\t12\t13\t14\t15
 ";
     check_bytes(&rt, table.as_slice(), lines.as_bytes());
-    Ok(())
 }
 
 // A run of a program on the standard machine, which predicts no branch as taken.
-fn ran(
-    rt: &impl Abort,
-    alloc: Global,
-    program: &[u8],
-    options: &TableOptions,
-) -> Result<ComparedRun, Fail> {
+fn ran(rt: &impl Abort, alloc: Global, program: &[u8], options: &TableOptions) -> ComparedRun {
     let arrivals = no_arrivals(rt, alloc);
     let pipeline = pipeline(rt, alloc, &described(rt, Values::standard()), program);
-    Ok(run_totals(alloc, pipeline, &mut NotTaken, &arrivals, options)?)
+    run_totals(alloc, pipeline, &mut NotTaken, &arrivals, options).expect(rt, "room")
 }
 
 // The table of that run.
-fn table_of(
-    rt: &impl Abort,
-    alloc: Global,
-    program: &[u8],
-    options: &TableOptions,
-) -> Result<Vec<u8>, Fail> {
-    let run = ran(rt, alloc, program, options)?;
+fn table_of(rt: &impl Abort, alloc: Global, program: &[u8], options: &TableOptions) -> Vec<u8> {
+    let run = ran(rt, alloc, program, options);
     let mut table = Vec::new(alloc);
-    write_table(&options.shown, &[], &[run], &mut table)?;
-    Ok(table)
+    write_table(&options.shown, &[], &[run], &mut table).expect(rt, "room");
+    table
 }
 
 // Checks the head of a table and how it ends.
 fn check_table(rt: &impl Abort, table: &[u8], head: &str, end: &[u8]) {
-    assert!(rt; table.starts_with(head.as_bytes()));
+    check_start(rt, table, head.as_bytes());
     check_end(rt, table, end);
 }
 
 // A run without a program traps in every second cycle, and its other cycles dispatch nothing.
 #[test]
-fn a_run_comes_to_its_totals(rt: HostRuntime) -> Result<(), Fail> {
-    let run = ran(&rt, rt.alloc(), &[], &A_HUNDRED_CYCLES)?;
+fn a_run_comes_to_its_totals(rt: HostRuntime) {
+    let run = ran(&rt, rt.alloc(), &[], &A_HUNDRED_CYCLES);
     let totals = run.totals;
-    assert!(&rt; totals.cycles == 100 && totals.busy == 50 && totals.stalls.fetch == 50);
-    assert!(&rt; totals.steps.traps == 49 && totals.steps.retired == 0);
-    Ok(())
+    check(
+        &rt,
+        totals.cycles == 100 && totals.busy == 50 && totals.stalls.fetch == 50,
+    );
+    check(&rt, totals.steps.traps == 49 && totals.steps.retired == 0);
 }
 
 // addi x10,x0,5; auipc x1,0; sw x10,256(x1); ebreak
@@ -175,7 +165,7 @@ const STORE: [u8; 16] = [
 
 // A register, the word that was stored, whether or not the cache has it, and an address outside RAM.
 #[test]
-fn a_table_shows_registers_and_words_at_the_end(rt: HostRuntime) -> Result<(), Fail> {
+fn a_table_shows_registers_and_words_at_the_end(rt: HostRuntime) {
     let options = TableOptions {
         limit: 100,
         shown: Columns {
@@ -185,7 +175,7 @@ fn a_table_shows_registers_and_words_at_the_end(rt: HostRuntime) -> Result<(), F
             fourth: Some(Shown::Word(4)),
         },
     };
-    let table = table_of(&rt, rt.alloc(), &STORE, &options)?;
+    let table = table_of(&rt, rt.alloc(), &STORE, &options);
     let head = "\
 number\tcycles\tretired\tcpi\ttraps\tinterrupts\tbusy\tstall_fetch\tstall_serial\tstall_rob\tstall_station\tstall_store\t\
 mispredicted\tsquashed\tmisses\tname\tstop\tipc\tlongest_gap\tbranches\tloads\tdrains\thits\twrite_backs\t\
@@ -193,13 +183,12 @@ a0\t0x80000104\t0x00000004
 ";
     let end = b"\t00000005\t00000005\t--------\n";
     check_table(&rt, table.as_slice(), head, end);
-    Ok(())
 }
 
 // Columns stand in the order in which they are asked for: the word of the first instruction, the address of the second, what the first
 // computed, and the word of the last.
 #[test]
-fn four_columns_stand_in_their_order(rt: HostRuntime) -> Result<(), Fail> {
+fn four_columns_stand_in_their_order(rt: HostRuntime) {
     let options = TableOptions {
         limit: 100,
         shown: Columns {
@@ -209,7 +198,7 @@ fn four_columns_stand_in_their_order(rt: HostRuntime) -> Result<(), Fail> {
             fourth: Some(Shown::Word(0x8000_000c)),
         },
     };
-    let table = table_of(&rt, rt.alloc(), &STORE, &options)?;
+    let table = table_of(&rt, rt.alloc(), &STORE, &options);
     let head = "\
 number\tcycles\tretired\tcpi\ttraps\tinterrupts\tbusy\tstall_fetch\tstall_serial\tstall_rob\tstall_station\tstall_store\t\
 mispredicted\tsquashed\tmisses\tname\tstop\tipc\tlongest_gap\tbranches\tloads\tdrains\thits\twrite_backs\t\
@@ -217,7 +206,6 @@ mispredicted\tsquashed\tmisses\tname\tstop\tipc\tlongest_gap\tbranches\tloads\td
 ";
     let end = b"\t00500513\t80000004\t00000005\t00100073\n";
     check_table(&rt, table.as_slice(), head, end);
-    Ok(())
 }
 
 // sw x0,256(x0); sw x0,256(x0); ebreak
@@ -233,13 +221,13 @@ const PLACES_SHOWN: Columns<Option<Shown>> = Columns {
 };
 
 // A pipeline with the two stores, whose reorder buffer and store queue have a place each.
-fn narrow_pipeline(rt: &impl Abort, alloc: Global) -> Result<Pipeline, Fail> {
+fn narrow_pipeline(rt: &impl Abort, alloc: Global) -> Pipeline {
     let mut values = Values::standard();
     values.ram_base = 0;
     values.rob = 1;
     values.store_queue = 1;
-    let image = Image::from_bytes(alloc, 0, &TWO_STORES, 0)?;
-    Ok(Pipeline::new(alloc, &described(rt, values), &image)?)
+    let image = Image::from_bytes(alloc, 0, &TWO_STORES, 0).expect(rt, "room");
+    Pipeline::new(alloc, &described(rt, values), &image).expect(rt, "room")
 }
 
 // One place is in the reorder buffer, and one in the store queue. The second store waits for both in the two cycles until the first
@@ -247,22 +235,24 @@ fn narrow_pipeline(rt: &impl Abort, alloc: Global) -> Result<Pipeline, Fail> {
 // places. In 0 and 19 there is no word: 4. A store in 1 and in 15 and the breakpoint in 18 each take one of two, and what is next finds the
 // reorder buffer full, as it does in two whole cycles after each store: 11. Eleven cycles wait for the store queue: 22.
 #[test]
-fn a_full_reorder_buffer_is_the_reason_before_a_full_store_queue(
-    rt: HostRuntime,
-) -> Result<(), Fail> {
+fn a_full_reorder_buffer_is_the_reason_before_a_full_store_queue(rt: HostRuntime) {
     const OPTIONS: TableOptions = TableOptions {
         limit: 100,
         shown: PLACES_SHOWN,
     };
-    let pipeline = narrow_pipeline(&rt, rt.alloc())?;
+    let pipeline = narrow_pipeline(&rt, rt.alloc());
     let arrivals = no_arrivals(&rt, rt.alloc());
-    let run = run_totals(rt.alloc(), pipeline, &mut NotTaken, &arrivals, &OPTIONS)?;
-    assert!(&rt; run.totals.stalls.rob == 4 && run.totals.stalls.store == 11);
+    let run = run_totals(rt.alloc(), pipeline, &mut NotTaken, &arrivals, &OPTIONS).expect(
+        &rt, "room",
+    );
+    check(
+        &rt,
+        run.totals.stalls.rob == 4 && run.totals.stalls.store == 11,
+    );
     let mut table = Vec::new(rt.alloc());
-    write_table(&PLACES_SHOWN, &[], &[run], &mut table)?;
+    write_table(&PLACES_SHOWN, &[], &[run], &mut table).expect(&rt, "room");
     let end = b"\t2\t1\t0\t0\t0\t0\t0\t4\t0\t11\t0\t0\t0\t0\t22\n";
     check_end(&rt, table.as_slice(), end);
-    Ok(())
 }
 
 // Each count is another one.
@@ -293,11 +283,11 @@ const SOME_PLACES: RunPlaces = RunPlaces {
 };
 
 #[test]
-fn the_places_have_fifteen_columns(rt: HostRuntime) -> Result<(), Fail> {
+fn the_places_have_fifteen_columns(rt: HostRuntime) {
     let mut run = NO_RUN;
     run.places = Some(SOME_PLACES);
     let mut table = Vec::new(rt.alloc());
-    write_table(&PLACES_SHOWN, &[], &[run], &mut table)?;
+    write_table(&PLACES_SHOWN, &[], &[run], &mut table).expect(&rt, "room");
     let end = "\thits\twrite_backs\t\
 places_retired\tplaces_trapped\tplaces_squashed_predictions\tplaces_squashed_serialising\tplaces_squashed_traps\t\
 places_squashed_interrupts\tplaces_in_flight\tplaces_lost_fetch\tplaces_lost_serial\tplaces_lost_rob\tplaces_lost_alu\t\
@@ -306,5 +296,4 @@ places_lost_mul\tplaces_lost_div\tplaces_lost_mem\tplaces_lost_store
 11\t12\t13\t14\t15\t16\t25\t17\t18\t19\t20\t21\t22\t23\t24
 ";
     check_end(&rt, table.as_slice(), end.as_bytes());
-    Ok(())
 }
