@@ -1,4 +1,3 @@
-use crate::checks::check;
 use crate::json::expect_text;
 use crate::machine::described;
 use rv_isa::{StoreAccess, StoreBytes, Values, Width};
@@ -27,7 +26,7 @@ fn a_store_shows_how_far_it_has_come_and_what_it_writes(rt: HostRuntime) {
         &rt, "a queue",
     );
     for sequence in [10, 12, 13, 15, 16] {
-        check(&rt, queue.can_enter(sequence));
+        assert!(&rt; queue.can_enter(sequence));
         queue.enter(sequence);
     }
     queue.fill(10, access(80, Width::Word, 0x0403_0201));
@@ -36,7 +35,7 @@ fn a_store_shows_how_far_it_has_come_and_what_it_writes(rt: HostRuntime) {
     queue.fill_fault(15);
     queue.commit_oldest();
     queue.commit_oldest();
-    check(&rt, queue.can_drain());
+    assert!(&rt; queue.can_drain());
     let _access = queue.start_drain();
     let mut text = Vec::new(alloc);
     write_store_queue(&mut Sink::new(&mut text), &queue);

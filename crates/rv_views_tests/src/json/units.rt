@@ -1,4 +1,3 @@
-use crate::checks::check;
 use crate::json::expect_text;
 use crate::machine::described;
 use rv_isa::{Kind, Values};
@@ -23,7 +22,7 @@ fn each_kind_has_the_starts_that_hold_its_units(rt: HostRuntime) {
         (Kind::Div, 16, 10),
     ];
     for (kind, cost, cycle) in starts {
-        check(&rt, units.free(kind, cycle));
+        assert!(&rt; units.free(kind, cycle));
         units.start(kind, cost, cycle);
     }
     let mut text = Vec::new(alloc);
@@ -35,7 +34,7 @@ fn each_kind_has_the_starts_that_hold_its_units(rt: HostRuntime) {
 fn the_unit_of_memory_is_the_last(rt: HostRuntime) {
     let alloc = rt.alloc();
     let mut units = Units::new(alloc, &described(&rt, Values::standard())).expect(&rt, "units");
-    check(&rt, units.free(Kind::Mem, 11));
+    assert!(&rt; units.free(Kind::Mem, 11));
     units.start(Kind::Mem, 12, 11);
     let mut text = Vec::new(alloc);
     write_units(&mut Sink::new(&mut text), &units);

@@ -1,3 +1,5 @@
+ghost use Rattle.std.specs.Prelude.{◌+◌, ◌<◌, ◌^◌};
+
 use crate::checks::{check, check_none, check_part, check_parts, check_text};
 use crate::machine::listing;
 use rv_decode::Decoded;
@@ -119,7 +121,9 @@ pub(crate) fn drawn_rows(
     marks: Option<&[Mark]>,
     lines: &[&str],
     window: Window,
-) -> String {
+) -> String
+    requires { window.first + window.cycles < 2 ^ 64 }
+{
     let listing = listing(rt, alloc, lines);
     let mut text = Vec::new(alloc);
     write_picture_svg(rows, interrupts, stalls, marks, &listing, window, &mut text).expect(
