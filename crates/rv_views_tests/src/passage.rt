@@ -1,4 +1,3 @@
-use crate::checks::check;
 use crate::machine::{described, pipeline};
 use rv_core::Pipeline;
 use rv_isa::Values;
@@ -19,7 +18,7 @@ fn begun(alloc: Global, pipeline: &Pipeline) -> Result<Table, AllocError> {
 fn nothing_is_in_flight_at_reset(rt: HostRuntime) {
     let pipeline = pipeline(&rt, rt.alloc(), &described(&rt, Values::standard()), &[]);
     let mut table = begun(rt.alloc(), &pipeline).expect(&rt, "memory");
-    check(&rt, table.make_room().is_ok());
-    check(&rt, table.rows().is_empty());
-    check(&rt, table.interrupts().is_empty());
+    assert!(&rt; table.make_room().is_ok());
+    assert!(&rt; table.rows().is_empty());
+    assert!(&rt; table.interrupts().is_empty());
 }

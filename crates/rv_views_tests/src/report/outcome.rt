@@ -1,4 +1,4 @@
-use crate::checks::{check, check_end, check_start};
+use crate::checks::{check_end, check_start};
 use crate::machine::{described, no_arrivals, pipeline};
 use rv_arch::Stop;
 use rv_core::{Outcome, Pipeline, run};
@@ -55,8 +55,8 @@ fn the_outcome_of_a_run_is_reported_with_its_steps(rt: HostRuntime) {
 // Checks how many steps the next cycle of a pipeline reports, and what stops it.
 fn check_cycle(rt: &impl Abort, pipeline: &mut Pipeline, steps: usize, stop: Option<Stop>) {
     let report = pipeline.cycle(&mut NotTaken, Lines::default());
-    check(rt, report.steps.len() == steps);
-    check(rt, report.stop == stop);
+    assert!(rt; report.steps.len() == steps);
+    assert!(rt; report.stop == stop);
 }
 
 #[test]

@@ -1,4 +1,4 @@
-use crate::checks::{check, check_bytes, check_end, check_start};
+use crate::checks::{check_bytes, check_end, check_start};
 use crate::machine::{described, narrow};
 use crate::report::tables::NO_RUN;
 use rv_arch::Stop;
@@ -224,10 +224,10 @@ fn each_trial_stands_once_and_settings_make_changes(rt: HostRuntime) {
             value: KeyValue::Number(4096),
         }),
     };
-    check(&rt, all_trials().len() == 36);
+    assert!(&rt; all_trials().len() == 36);
     let own = changes(rt.alloc(), &SETTINGS).expect(&rt, "room");
     let table = table_of(&rt, rt.alloc(), narrow(), own.as_slice(), 7, &[]);
     let end = b"\nrob\t16\t64\t7\t0\tlimit\ndiv.pipelined\tfalse\ttrue\t7\t0\tlimit\n";
     check_end(&rt, table.as_slice(), end);
-    check(&rt, own.len() == 2);
+    assert!(&rt; own.len() == 2);
 }

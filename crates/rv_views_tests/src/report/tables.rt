@@ -151,11 +151,8 @@ fn check_table(rt: &impl Abort, table: &[u8], head: &str, end: &[u8]) {
 fn a_run_comes_to_its_totals(rt: HostRuntime) {
     let run = ran(&rt, rt.alloc(), &[], &A_HUNDRED_CYCLES);
     let totals = run.totals;
-    check(
-        &rt,
-        totals.cycles == 100 && totals.busy == 50 && totals.stalls.fetch == 50,
-    );
-    check(&rt, totals.steps.traps == 49 && totals.steps.retired == 0);
+    assert!(&rt; totals.cycles == 100 && totals.busy == 50 && totals.stalls.fetch == 50);
+    assert!(&rt; totals.steps.traps == 49 && totals.steps.retired == 0);
 }
 
 // addi x10,x0,5; auipc x1,0; sw x10,256(x1); ebreak
