@@ -4,7 +4,7 @@ ghost use Rattle.std.specs.Option.{option_or, option_to_list};
 ghost use Rattle.std.specs.List.{list_any};
 ghost use Rattle.rv_isa.specs.Instruction.{kind_of_word};
 ghost use Rattle.rv_causes.specs.Holding.{at_its_commit, drain_event, drain_kept, drain_of};
-ghost use Rattle.rv_causes.specs.Holding.{drain_wait, ends_at, goes_beyond, hold_of, hold_of_kind};
+ghost use Rattle.rv_causes.specs.Holding.{drain_wait, goes_beyond, hold_of, hold_of_kind};
 ghost use Rattle.rv_causes.specs.Holding.{begins_hold, is_begun, is_held, is_taken, lines_hold};
 ghost use Rattle.rv_causes.specs.Holding.{load_hold, new_holds, port_event, port_kept, taken_by};
 ghost use Rattle.rv_causes.specs.Setting.{setting_of};
@@ -17,6 +17,7 @@ use crate::point::{Point, Stage};
 use crate::scene::{Scene, last_left};
 use crate::sought::{Sought, first_of, is_at};
 use crate::way::{Found, Way};
+use rv_hardware::is_new_drain;
 use rv_isa::{Issue, Kind, Values};
 use rv_passage::Passage;
 
@@ -27,23 +28,11 @@ pub(crate) fn is_taken(scene: &Scene<'_>, facts: &Facts) -> bool
     scene.number < facts.port_free && facts.port_free != scene.before.facts.port_free
 }
 
-fn ends_at(cycle: u64, end: Option<u64>) -> bool
-    ensures { result ≡ ends_at cycle end }
-{
-    match end {
-        Some(end) => end == cycle,
-        None => false,
-    }
-}
-
 // Whether a drain is under way after the cycle that was not before.
-fn is_begun(scene: &Scene<'_>, end: Option<u64>) -> bool
-    ensures { result ≡ is_begun (setting_of scene.now) end }
+fn is_begun(scene: &Scene<'_>, facts: &Facts) -> bool
+    ensures { result ≡ is_begun (setting_of scene.now) facts.now }
 {
-    match end {
-        Some(end) => !ends_at(end, scene.before.facts.drain_end),
-        None => false,
-    }
+    is_new_drain(scene.before.facts.drain_end, facts.drain_end)
 }
 
 fn at_its_commit<'a>(scene: &Scene<'_>, leaving: &'a Leaving) -> Option<Waited<'a>>
@@ -125,7 +114,7 @@ pub(crate) fn taken_by(
     ensures { result ≡ taken_by (setting_of scene.now) ways.now leaving.now facts.now }
 {
     let until = facts.port_free;
-    if is_begun(scene, facts.drain_end) {
+    if is_begun(scene, facts) {
         return Some(PortHold {
             until,
             event: drain_event(scene, leaving),

@@ -13,7 +13,7 @@ use Rattle.rv_watch.specs.Progress.{progress_of}
 use Rattle.rv_watch.specs.Watching.{Watched, watched, with_shown}
 use Rattle.rv_watch.specs.declared.progress.Progress.{Progress}
 use Rattle.rv_watch.proofs.Shown.{cycle_counts, moments_counted}
-use Rattle.rv_hardware.specs.Draining.{drain_end}
+use Rattle.rv_hardware.specs.Draining.{drain_end, new_drain_cost}
 use Rattle.rv_hardware.specs.Guided.{GuidedHardware}
 use Rattle.rv_hardware.specs.History.{Moment, reports_of}
 use Rattle.rv_hardware.specs.Run.{Reachable}
@@ -27,7 +27,7 @@ use Rattle.rv_passage.specs.declared.{passage.Passage.Passage, table.Table.Table
 use Rattle.rv_passage.proofs.EndedRun.{length-reports_of}
 use Rattle.rv_counts.specs.Left.{left_after, passages_of_run}
 use Rattle.rv_counts.proofs.Left.{left-push, some_left-push}
-use Rattle.rv_sentences.specs.Drain.{begun, drain_in}
+use Rattle.rv_sentences.specs.Drain.{drain_in}
 use Rattle.rv_explain.specs.AtEnd.{AreAtEnd}
 use Rattle.rv_explain.specs.Explanation.{IsTallied}
 use Rattle.rv_explain.specs.Tally.{HasRoom, IsOfNoCycle, IsTallying, tally_after, tally_of}
@@ -136,7 +136,7 @@ module _ {seen : Watched} {cycle : ShownCycle}
   -- and are tallied
   pub tallied_on : (drain : Option ℕ) (tally' : Tally) (registers' : List ℕ) (end' : Option ℕ) (in_flight' : ℕ)
       (places : CyclePlaces) (lines : Lines) → lines ≡ cycle.hardware.now.lines → places ≡ places_now →
-      drain ≡ begun cycle.number end end'
+      drain ≡ new_drain_cost cycle.number end end'
       → tally' ≡ tally_after cycle.number registers cycle.steps.now places drain lines cycle.hardware.now cycle.rows.now
       tally → registers' ≡ cycle.hardware.now.registers → end' ≡ drain_end cycle.hardware.now
       → in_flight' ≡ length cycle.hardware.now.rob.entries → in_flight' ≤ 256 →
@@ -148,7 +148,7 @@ module _ {seen : Watched} {cycle : ShownCycle}
       let after = cycle.hardware.now in
       let rows = cycle.rows.now in
       let drain_now : drain ≡ drain_in seen.arrivals seen.now.hardware =
-      drain_is ∙ (λ i. begun (shown.number i) (tallying.end_is i) (end_is i))
+      drain_is ∙ (λ i. new_drain_cost (shown.number i) (tallying.end_is i) (end_is i))
       ∙ begun_in_cycle shown.reached (any_cycle shown.cycled.cycle) in
       let placed_as : places ≡ places_in seen.now.hardware moment = places_is ∙ places_are in
       let free = is_free cycle.number (at_kind Mem after.units) in

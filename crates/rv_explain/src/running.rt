@@ -7,8 +7,8 @@ use crate::cycle_places::{cycle_places, in_flight};
 use crate::tally::Tally;
 use rv_arch::Stop;
 use rv_front::Predictor;
+use rv_hardware::new_drain_cost;
 use rv_isa::{Arrivals, Description};
-use rv_sentences::begun;
 use rv_text::Sink;
 use rv_view::{Following, ShownCycle, View, Viewed, run_view};
 use rv_watch::{Progress, Simulated};
@@ -58,7 +58,7 @@ impl View for Explainer {
 
     fn see<W: Write>(&mut self, cycle: &ShownCycle<'_>, _: &mut Sink<'_, W>) {
         let drain_end = cycle.hardware.drain_end();
-        let drain = begun(cycle.number, self.drain_end, drain_end);
+        let drain = new_drain_cost(cycle.number, self.drain_end, drain_end);
         let places = cycle_places(cycle.number, self.in_flight, cycle.steps, cycle.hardware);
         let observed = cycle.hardware.observe();
         self.tally.add(

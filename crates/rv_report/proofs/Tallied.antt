@@ -9,7 +9,7 @@ use Rattle.rv_watch.specs.Progress.{progress_of}
 use Rattle.rv_watch.specs.Watching.{IsShown, Watched, watched, with_shown}
 use Rattle.rv_watch.specs.declared.progress.Progress.{Progress}
 use Rattle.rv_watch.proofs.Shown.{cycle_counts, shown_steps-push}
-use Rattle.rv_hardware.specs.Draining.{drain_end}
+use Rattle.rv_hardware.specs.Draining.{drain_end, new_drain_cost}
 use Rattle.rv_hardware.specs.Guided.{GuidedHardware}
 use Rattle.rv_hardware.specs.Hardware.{Hardware}
 use Rattle.rv_hardware.specs.History.{History, Moment, cycled, ended, reports_of}
@@ -17,7 +17,7 @@ use Rattle.rv_hardware.specs.Run.{IsStop, Reachable, steps_of}
 use Rattle.rv_hardware.specs.Step.{is_interrupt, is_retirement, is_trap}
 use Rattle.rv_hardware.specs.declared.step.Step.{Step}
 use Rattle.rv_report.specs.Comparison.{RunsTo}
-use Rattle.rv_report.specs.Events.{AreAtMost, begun, both_events, counted_after, events_between, events_by}
+use Rattle.rv_report.specs.Events.{AreAtMost, both_events, counted_after, events_between, events_by}
 use Rattle.rv_report.specs.Events.{events_in, events_of_drain, events_of_steps, events_so_far, no_events}
 use Rattle.rv_report.specs.Speculation.{CanCount, Speculated, in_flight, speculated_after, speculated_at, speculated_in}
 use Rattle.rv_report.specs.Tally.{IsTallied, losses_with}
@@ -77,9 +77,9 @@ few-below events most more few below = grind arith
 cycle-few : (costs : LoadCosts) (cycle : ℕ) (steps : List Step) (before after : Option ℕ) →
     AreAtMost (length steps + 1) (events_by costs cycle steps before after)
 cycle-few costs cycle steps before after =
-    both-few (events_of_steps costs steps) (events_of_drain costs (begun cycle before after)) (length steps) 1
+    both-few (events_of_steps costs steps) (events_of_drain costs (new_drain_cost cycle before after)) (length steps) 1
     (steps-few costs steps)
-    (drain-few costs (begun cycle before after))
+    (drain-few costs (new_drain_cost cycle before after))
 
 none-few : AreAtMost 0 no_events
 none-few = grind arith

@@ -7,7 +7,7 @@ use Rattle.rv_counts.specs.declared.loads.LoadCosts.{LoadCosts}
 use Rattle.rv_isa.specs.Instruction.{is_branch_or_jump, is_load}
 use Rattle.rv_isa.specs.declared.values.Values.{Values}
 use Rattle.rv_decode.specs.Decodes.{instruction_of}
-use Rattle.rv_hardware.specs.Draining.{drain_end}
+use Rattle.rv_hardware.specs.Draining.{drain_end, new_drain_cost}
 use Rattle.rv_hardware.specs.Hardware.{Hardware}
 use Rattle.rv_hardware.specs.History.{Moment}
 use Rattle.rv_hardware.specs.declared.step.{Execution.Execution, Row.Row, Step.Step}
@@ -73,18 +73,7 @@ events_of_steps costs steps = record {
   write_backs = count_by (happens costs WriteBack) steps;
 }
 
--- an access ends then
-abbrev pub ends_at : ℕ → Option ℕ → Bool
-ends_at end None = false
-ends_at end (Some other) = other == end
-
--- What the access of a retired store to the cache costs that began in a cycle, if one did. `before` and `after` are the ends of the
--- accesses that are under way before the cycle and after it, of which no two are the same.
-abbrev pub begun : ℕ → Option ℕ → Option ℕ → Option ℕ
-begun cycle before None = None
-begun cycle before (Some end) = if ends_at end before then None else Some (end - cycle)
-
--- what such an access did by its cost
+-- what the access did of a retired store to the cache that began in a cycle, by its cost
 abbrev pub events_of_drain : LoadCosts → Option ℕ → Events
 events_of_drain costs None = no_events
 events_of_drain costs (Some cost) = record {
@@ -99,7 +88,7 @@ events_of_drain costs (Some cost) = record {
 -- what a cycle did
 abbrev pub events_by : LoadCosts → ℕ → List Step → Option ℕ → Option ℕ → Events
 events_by costs cycle steps before after =
-    both_events (events_of_steps costs steps) (events_of_drain costs (begun cycle before after))
+    both_events (events_of_steps costs steps) (events_of_drain costs (new_drain_cost cycle before after))
 
 -- one that led from some hardware to other
 abbrev pub events_between : Values → Hardware → Moment → Events

@@ -2,13 +2,13 @@ ghost use Rattle.std.specs.Prelude.{◌≡◌, ◌≤◌, ◌^◌, count_by, len
 ghost use Rattle.rv_decode.specs.Decodes.{instruction_of};
 ghost use Rattle.rv_hardware.specs.Draining.{drain_end};
 ghost use Rattle.rv_isa.specs.Instruction.{is_branch_or_jump, is_load};
-ghost use Rattle.rv_report.specs.Events.{AreAtMost, begun, both_events, counted_after};
+ghost use Rattle.rv_report.specs.Events.{AreAtMost, both_events, counted_after};
 ghost use Rattle.rv_report.specs.Events.{events_of_drain, events_of_steps, events_so_far};
 ghost use Rattle.rv_report.specs.Events.{happens, is_missed, is_of, is_written_back, no_events};
 
 use rv_counts::LoadCosts;
 use rv_decode::decode;
-use rv_hardware::{Execution, Row, Step};
+use rv_hardware::{Execution, Row, Step, new_drain_cost};
 use rv_isa::Instr;
 use rv_watch::ShownHardware;
 
@@ -173,17 +173,6 @@ impl EventCounter {
         }
     }
 
-    // What the drain costs that began in a cycle, at whose end the one under way ends in such a cycle.
-    fn begun(&self, cycle: u64, drain_end: Option<u64>) -> Option<u64>
-        ensures { result ≡ begun cycle self.now.drain_end drain_end }
-    {
-        let end = drain_end?;
-        if self.drain_end == Some(end) {
-            return None;
-        }
-        Some(end.saturating_sub(cycle))
-    }
-
     // What a drain did by its cost.
     fn of_drain(&self, cost: Option<u64>) -> Events
         ensures events { result ≡ events_of_drain self.now.costs cost }
@@ -209,7 +198,7 @@ impl EventCounter {
         ensures { self.new ≡ counted_after cycle steps.now drain_end self.old }
     {
         let mut more = self.of_steps(steps);
-        more.add(&self.of_drain(self.begun(cycle, drain_end)));
+        more.add(&self.of_drain(new_drain_cost(cycle, self.drain_end, drain_end)));
         self.counts.add(&more);
         self.drain_end = drain_end;
     }

@@ -16,7 +16,7 @@ use Rattle.rv_stores.specs.declared.store.StoreState.{StoreState}
 use Rattle.rv_hardware.specs.Commit.{is_drained, with_write_back}
 use Rattle.rv_hardware.specs.Cycle.{IsCycle, any_prediction, commit_with, execute, with_lines}
 use Rattle.rv_hardware.specs.Drain.{drain, end_drain, start_drain}
-use Rattle.rv_hardware.specs.Draining.{drain_cost, drain_end}
+use Rattle.rv_hardware.specs.Draining.{drain_cost, drain_end, ends_at, new_drain_cost}
 use Rattle.rv_hardware.specs.Hardware.{Hardware}
 use Rattle.rv_hardware.specs.Report.{Report}
 use Rattle.rv_hardware.specs.Retirement.{committed_store}
@@ -30,7 +30,6 @@ use Rattle.rv_hardware.proofs.Tests.{by_test}
 use Rattle.rv_hardware.proofs.Always.Queue.{CanDrain, HasQueue, IsQueue, queue-kept}
 use Rattle.rv_hardware.proofs.Always.Sound.{sound}
 use Rattle.rv_hardware.proofs.Laws.Port.Loads.{has_its_port}
-use Rattle.rv_sentences.specs.Drain.{begun, ends_at}
 
 -- the end of the access under way, by whether the oldest store drains
 abbrev end_by : Bool → ℕ → Option ℕ
@@ -99,7 +98,7 @@ now_drains [] access is = absurd (cc)
 now_drains (s ∷ ss) access is = now_draining s.state access is
 
 -- one end is no other's
-same_end : (number : ℕ) (under : Option ℕ) → begun number under under ≡ None
+same_end : (number : ℕ) (under : Option ℕ) → new_drain_cost number under under ≡ None
 same_end number None = refl
 same_end number (Some end) = rw (eq-eqb end end refl) refl
 
@@ -107,20 +106,20 @@ same_end number (Some end) = rw (eq-eqb end end refl) refl
 record Begins (number : ℕ) (under cost : Option ℕ) (h : Hardware) : Type 0 where
   pub cycle : h.cycle ≡ number
   pub later : is_oldest_draining h.committed ≡ true → number < h.port_free
-  pub costs : begun number under (drain_end h) ≡ cost
+  pub costs : new_drain_cost number under (drain_end h) ≡ cost
 
 module _ (number : ℕ) (under : Option ℕ) (h : Hardware) (stands : Stands number under h) where
   other_end : (end : ℕ) (drains : Bool) → h.port_free < end → ends_at end (end_by drains h.port_free) ≡ false
   other_end end true after = ne_eqb h.port_free end (λ is. omega (arith, is, after))
   other_end end false after = refl
 
-  new_end : (cost : ℕ) → h.port_free ≤ h.cycle → 1 ≤ cost → begun number under (Some (h.cycle + cost)) ≡ Some cost
+  new_end : (cost : ℕ) → h.port_free ≤ h.cycle → 1 ≤ cost → new_drain_cost number under (Some (h.cycle + cost)) ≡ Some cost
   new_end cost idle some = grind (arith, other_end)
 
   starts : (found : Option StoreAccess) → oldest_to_drain (without_drained h.committed) ≡ found → h.port_free ≤ h.cycle
       → Begins number under (option_map (λ (access : StoreAccess). access_cost h.cache access.address) found)
       (start_drain found (end_drain h))
-  starts found is idle = grind (arith, rests, begun, access_cost-least, now_drains, new_end)
+  starts found is idle = grind (arith, rests, new_drain_cost, access_cost-least, now_drains, new_end)
 
   drains_by_port : (idle : Bool) → nat_le h.port_free h.cycle ≡ idle → Begins number under (drain_cost h) (drain h)
   drains_by_port true is =
@@ -131,7 +130,7 @@ module _ (number : ℕ) (under : Option ℕ) (h : Hardware) (stands : Stands num
       (record {
         cycle = stands.cycle;
         later = λ _. omega (arith, busy, stands.cycle);
-        costs = ap (begun number under) stands.ends ∙ same_end number under;
+        costs = ap (new_drain_cost number under) stands.ends ∙ same_end number under;
       })
 
 -- ---- after it the access under way stays
@@ -158,7 +157,7 @@ module _ (number : ℕ) (under : Option ℕ) where
 -- ---- the whole cycle
 pub begun_in_cycle : {lines : Lines} {old new : Hardware} {report : Report} → Reachable old →
     IsCycle any_prediction lines old report new
-    → begun old.cycle (drain_end old) (drain_end new) ≡ drain_cost (commit_with set.contains lines old).hardware
+    → new_drain_cost old.cycle (drain_end old) (drain_end new) ≡ drain_cost (commit_with set.contains lines old).hardware
 begun_in_cycle {lines} {old} {new} reached cycle =
     let whole = sound reached in
     let before : Stands old.cycle (drain_end old) (with_lines lines old) = record {
@@ -178,4 +177,4 @@ begun_in_cycle {lines} {old} {new} reached cycle =
     let later : drain_end new ≡ under =
     ap drain_end cycle.others_stay ∙ ap (λ d. drain_end d.hardware) cycle.executes
     ∙ ap (λ c. drain_end (execute c.hardware).hardware) cycle.commits ∙ stays.ends in
-    ap (begun old.cycle (drain_end old)) later ∙ begins.costs
+    ap (new_drain_cost old.cycle (drain_end old)) later ∙ begins.costs

@@ -1,5 +1,5 @@
 -- The drains of a run by what they cost: the accesses by which retired stores go into the cache. One is counted when it begins.
-use Rattle.std.specs.Prelude.{ℕ, ◌-◌, ◌==◌, Bool, false, if◌then◌else◌, List, []}
+use Rattle.std.specs.Prelude.{ℕ, ◌==◌, List, []}
 use Rattle.std.specs.Prelude.{◌∷◌, ◌++◌, codes, length, Option, Some, None, count_by}
 use Rattle.std.specs.Option.{option_to_list}
 use Rattle.std.specs.FinSet as set
@@ -21,16 +21,6 @@ abbrev pub drains_of : List Arrival → Hardware → List Moment → List ℕ
 drains_of arrivals h [] = []
 drains_of arrivals h (moment ∷ moments) =
     option_to_list (drain_in arrivals h) ++ drains_of arrivals moment.after moments
-
--- an access ends then
-abbrev pub ends_at : ℕ → Option ℕ → Bool
-ends_at end None = false
-ends_at end (Some other) = other == end
-
--- the same cost by the ends of the accesses that are under way before a cycle and after it: no two have one end
-abbrev pub begun : ℕ → Option ℕ → Option ℕ → Option ℕ
-begun cycle before None = None
-begun cycle before (Some end) = if ends_at end before then None else Some (end - cycle)
 
 -- drains by what each cost, and what a hit costs
 abbrev pub drains_by : ℕ → List ℕ → Accesses

@@ -1,23 +1,12 @@
 ghost use Rattle.std.specs.Prelude.{◌≡◌, ◌+◌, ◌<◌, ◌^◌};
 ghost use Rattle.std.specs.Option.{option_to_list};
 ghost use Rattle.rv_sentences.specs.Access.{both};
-ghost use Rattle.rv_sentences.specs.Drain.{begun, drain_text, drains_by};
+ghost use Rattle.rv_sentences.specs.Drain.{drain_text, drains_by};
 ghost use Rattle.rv_text.specs.Said.{Says};
 
 use crate::accesses::{Accesses, write_accesses};
 use rv_text::Sink;
 use std::io::Write;
-
-/// What a drain costs that began in a cycle, by the ends of those under way before and after it.
-pub fn begun(cycle: u64, before: Option<u64>, after: Option<u64>) -> Option<u64>
-    ensures { result ≡ begun cycle before after }
-{
-    let end = after?;
-    if before == Some(end) {
-        return None;
-    }
-    Some(end.saturating_sub(cycle))
-}
 
 /// Counts the drain that began in a cycle, if one did, by what it costs, and what a hit costs.
 pub fn add_drain(drains: &mut Accesses, hit: u32, drain: Option<u64>)

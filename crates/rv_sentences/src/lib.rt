@@ -44,7 +44,7 @@ mod worst;
 pub use accesses::Accesses;
 pub use dispatches::{Dispatches, write_dispatches};
 pub use drained::Drained;
-pub use drains::{add_drain, begun, write_drains};
+pub use drains::{add_drain, write_drains};
 pub use exception::Exception;
 pub use exceptions::write_first;
 pub use flushers::{flusher_after, idle_with};

@@ -1,6 +1,6 @@
 //! What texts mean as descriptions, and where they are refused.
 
-mod arrivals;
+pub(crate) mod arrivals;
 mod bounds;
 mod faults;
 mod readings;

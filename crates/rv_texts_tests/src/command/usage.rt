@@ -213,6 +213,18 @@ Options:
     "rv_sim profile < FILE"
 );
 
+const HELP_OF_PATH: &str = help_of_run!(
+    "Writes which causes and lines have the cycles of the critical path of a run of the text on standard input
+
+Usage: rv_sim path [OPTIONS]
+
+Options:
+      --limit <N>  The most cycles, 1 to 1000000 [default: 100000]
+  -h, --help       Print help
+",
+    "rv_sim path < FILE"
+);
+
 const HELP_OF_COMPARE: &str = "Runs one program on several machines, and compares their totals
 
 Usage: rv_sim compare [OPTIONS]
@@ -361,7 +373,7 @@ pub(super) fn each_is_shown(
 
 #[test]
 fn help_and_version_have_their_texts(rt: HostRuntime) -> Result<(), Fail> {
-    static CASES: [(&[&str], &str); 15] = [
+    static CASES: [(&[&str], &str); 16] = [
         (&["rv_sim", "--help"], HELP),
         (&["rv_sim", "help"], HELP),
         (&["rv_sim", "run", "-h"], HELP_OF_RUN),
@@ -374,6 +386,7 @@ fn help_and_version_have_their_texts(rt: HostRuntime) -> Result<(), Fail> {
         (&["rv_sim", "page", "--help"], HELP_OF_PAGE),
         (&["rv_sim", "explain", "--help"], HELP_OF_EXPLAIN),
         (&["rv_sim", "profile", "--help"], HELP_OF_PROFILE),
+        (&["rv_sim", "path", "--help"], HELP_OF_PATH),
         (&["rv_sim", "compare", "--help"], HELP_OF_COMPARE),
         (&["rv_sim", "sensitivity", "--help"], HELP_OF_SENSITIVITY),
         (&["rv_sim", "--version"], VERSION),

@@ -131,7 +131,7 @@ fn the_first_field_with_the_fault_is_named(rt: HostRuntime) {
 }
 
 // A list of an entry so many times between a first text and a last one.
-fn long_list(
+pub(crate) fn long_list(
     alloc: Global,
     first: &str,
     entry: &str,
@@ -163,7 +163,7 @@ fn expect_of_list(
     Ok(())
 }
 
-const ENTRY: &str = "{cycle=7,line='timer'},";
+pub(crate) const ENTRY: &str = "{cycle=7,line='timer'},";
 
 // An entry more than there may be.
 const TOO_MANY: Option<ArrivalsError> = Some(range!(100_001, None));

@@ -1,4 +1,6 @@
-use crate::refusal::{Refused, check_whole};
+use crate::checks::check_bytes;
+use crate::describe::arrivals::{ENTRY, long_list};
+use crate::refusal::{Refused, check_whole, shown};
 use std::test::Fail;
 
 // Lists of arrivals that are refused by a field of an entry that stands on a line, and why.
@@ -288,4 +290,20 @@ fn a_refusal_shows_the_arrival_that_lacks_a_field(rt: HostRuntime) -> Result<(),
 #[test]
 fn a_refusal_shows_the_line_of_an_unknown_name_of_an_arrival(rt: HostRuntime) -> Result<(), Fail> {
     check_whole(&rt, rt.alloc(), &NAMES)
+}
+
+// The list is refused as a whole: no line is shown.
+#[test]
+fn a_refusal_says_how_many_arrivals_there_may_be(rt: HostRuntime) -> Result<(), Fail> {
+    let mut job = String::new(rt.alloc());
+    job.push_str("%%\n")?;
+    job.push_str(long_list(rt.alloc(), "", ENTRY, 100_001, "")?.as_str())?;
+    job.push_str("\n%%\nebreak\n")?;
+    let found = shown(rt.alloc(), job.as_bytes())?;
+    check_bytes(
+        &rt,
+        found.as_slice(),
+        b"expected: at most 100000 entries [[arrival]]\n",
+    );
+    Ok(())
 }
