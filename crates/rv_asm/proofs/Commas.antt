@@ -34,7 +34,4 @@ module _ (tokens : List Token) (size : ℕ) (size_is : size ≡ position_or_len 
 
     -- the tokens are cut into one piece, which has all of them
     pub cut_nowhere : slice_split is_comma (map token_of tokens) ≡ map token_of tokens ∷ []
-    cut_nowhere =
-        slice_split_none is_comma (map token_of tokens)
-        (λ k d below. fails_before_first is_comma (map token_of tokens) k d
-        (omega (arith, below, size_is, whole, length-map tokens token_of)))
+    cut_nowhere = grind (arith, slice_split_none, fails_before_first, length-map)

@@ -1,10 +1,8 @@
 -- The operands of data, piece by piece.
 use Rattle.std.proofs.Common.{◌≡◌, ◌∙◌, ◌<◌, List, [], ◌∷◌, map, length, Bool, true, false, ◌&&◌, Option, None, Some}
-use Rattle.std.proofs.Common.{Ok, Err, ok_or, unwrap_or, pos, option_and_then, refl, ap, sym, arith}
+use Rattle.std.proofs.Common.{Ok, Err, unwrap_or, pos, option_and_then, refl, ap, arith}
 use Rattle.std.specs.List.{list_all, slice_split}
 use Rattle.std.specs.Option.{option_map, option_map_or}
-use Rattle.std.proofs.lemmas.List.{length-map}
-use Rattle.std.proofs.lemmas.List.Splits.{length-slice_split}
 use Rattle.rv_isa.specs.declared.operations.Width.{Width}
 use Rattle.rv_asm.specs.Operand.{Operand, Value, Number, is_comma, operand, operands_in}
 use Rattle.rv_asm.specs.Read.{data_in, datum, is_value, token_of}
@@ -47,14 +45,6 @@ all_read (piece ∷ pieces) all =
     (read_one (operand piece) here)
     ∙ ap (option_map (λ rest. datum piece ∷ rest)) (all_read pieces others)
 
-refused : (width : Width) (read : Option (List Operand)) →
-    option_map_or (list_all (takes place.Value)) read false ≡ false →
-    and_then (ok_or read BadOperands) (statement (form.Values width)) ≡ Err BadOperands
-unfolding statement
-refused width None is = refl
-refused width (Some []) is = refl
-refused width (Some (first ∷ others)) is = rw is refl
-
 accepted : (width : Width) (operands : List Operand) → 0 < length operands →
     list_all (takes place.Value) operands ≡ true → statement (form.Values width) operands ≡ Ok (Values width operands)
 unfolding statement
@@ -67,19 +57,11 @@ pub data_refused : (width : Width) (tokens : List Token) →
     and_then (operands_read (map token_of tokens)) (statement (form.Values width)) ≡ Err BadOperands
 unfolding statement
 data_refused width [] is = refl
-data_refused width (first ∷ others) is =
-    refused width (operands_in (slice_split is_comma (map token_of (first ∷ others))))
-    (taken (slice_split is_comma (map token_of (first ∷ others))) ∙ is)
+data_refused width (first ∷ others) is = grind (arith, taken)
 
 -- all are expressions
 pub data_taken : (width : Width) (tokens : List Token) →
     list_all is_value (slice_split is_comma (map token_of tokens)) ≡ true →
     and_then (operands_read (map token_of tokens)) (statement (form.Values width)) ≡ Ok (Values width (data_in tokens))
 data_taken width [] all = absurd (cc)
-data_taken width (first ∷ others) all =
-    let pieces = slice_split is_comma (map token_of (first ∷ others)) in
-    let read = all_read pieces all in
-    ap (λ r. and_then (ok_or r BadOperands) (statement (form.Values width))) read
-    ∙ accepted width (map datum pieces)
-    (omega (arith, length-map pieces datum, length-slice_split is_comma (map token_of (first ∷ others))))
-    (sym (ap (λ r. option_map_or (list_all (takes place.Value)) r false) read) ∙ taken pieces ∙ all)
+data_taken width (first ∷ others) all = grind (arith, all_read, accepted, taken)

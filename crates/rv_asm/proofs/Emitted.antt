@@ -20,12 +20,7 @@ spells_append {y = y} (word {w = w} {bytes = bytes} is r) s =
 
 -- parts that are appended one after the other are appended together
 pub appends_more : {p q : List Cell} {a b c : List ℕ} → Appends p a b → Appends q b c → Appends (p ++ q) a c
-appends_more {a = a} r s =
-    record {
-      bytes = r.bytes ++ s.bytes;
-      spells = spells_append r.spells s.spells;
-      appended = s.appended ∙ ap (λ l. l ++ s.bytes) r.appended ∙ append_assoc a r.bytes s.bytes;
-    }
+appends_more {a = a} r s = grind (arith, spells_append, append_assoc)
 
 pub appends_nothing : (a : List ℕ) → Appends [] a a
 appends_nothing a = record { bytes = []; spells = nothing; appended = sym (append-nil a) }
@@ -67,10 +62,7 @@ appends_bytes bytes old new e = record { bytes = bytes; spells = spells_bytes by
 -- bytes that are resized to a count more are followed by so many zeros
 pub zeros_after : (old new : List ℕ) (size count len : ℕ) → new ≡ take size old ++ replicate (size - len) 0 →
     size ≡ len + count → len ≡ length old → new ≡ old ++ replicate count 0
-zeros_after old new size count len e size_is len_is =
-    let whole : take size old ≡ old = take_all size old (omega (arith, size_is, len_is)) in
-    let left : size - len ≡ count = omega (arith, size_is) in
-    e ∙ ap (λ l. l ++ replicate (size - len) 0) whole ∙ ap (λ n. old ++ replicate n 0) left
+zeros_after old new size count len e size_is len_is = grind (arith, take_all)
 
 -- what is left of a list begins with the next element
 pub rest_is : {X : Type 0} (xs : List X) (i : ℕ) (x : X) → x ≡ get_or xs i x → i < length xs →

@@ -1,6 +1,6 @@
 -- The names that tables hold.
-use Rattle.std.proofs.Common.{◌≡◌, ◌∙◌, ◌+◌, ◌<◌, Bor, cond, drop, false, get_or, length, map, sym, ℕ, List}
-use Rattle.std.proofs.Common.{[], ◌∷◌, true, Some, None, Option, refl, ap, arith, IsSome, IfSome, ◌↔◌}
+use Rattle.std.proofs.Common.{◌≡◌, ◌∙◌, ◌+◌, ◌<◌, Bor, cond, drop, false, get_or, length, map, ℕ, List, [], ◌∷◌, true}
+use Rattle.std.proofs.Common.{Some, None, Option, refl, ap, arith, IsSome, IfSome, ◌↔◌}
 use Rattle.std.specs.Prelude.{nat_lt}
 use Rattle.std.specs.List.{list_all}
 use Rattle.std.specs.Str.{bytes_eq}
@@ -29,9 +29,7 @@ module _ {T : Type 0} (table : List (Bor (List ℕ) × T)) (i : ℕ) (row : Bor 
     (inside : i < length table) (row_is : row ≡ get_or table i row) where
   next_row : named (map (λ row. (row.0.now, row.1)) (drop i table)) name
       ≡ cond (bytes_eq row.0.now name) (Some row.1) (named (map (λ row. (row.0.now, row.1)) (drop (i + 1) table)) name)
-  next_row =
-      ap (λ rows. named (map (λ row. (row.0.now, row.1)) rows) name)
-      (drop_more table i row inside ∙ ap (λ first. first ∷ drop (i + 1) table) (sym row_is))
+  next_row = grind (arith, drop_more)
 
   -- where the next row has the name, it is the one that is found
   pub named-here : bytes_eq row.0.now name ≡ true →

@@ -7,7 +7,7 @@ use Rattle.std.specs.List.{slice_split, onto_first}
 use Rattle.std.specs.Option.{option_map}
 use Rattle.std.proofs.lemmas.List.{map-append}
 use Rattle.std.proofs.lemmas.Simd.{map-map}
-use Rattle.rv_asm.specs.Operand.{Expression, Operand, Indirect, Value, based, expression, in_parentheses, operand}
+use Rattle.rv_asm.specs.Operand.{Operand, Indirect, Value, based, expression, in_parentheses, operand}
 use Rattle.rv_asm.specs.Operand.{operands_in, operands_of, is_comma}
 use Rattle.rv_asm.specs.Read.{operand_of, token_of}
 use Rattle.rv_asm.specs.Token as spec
@@ -68,10 +68,6 @@ module _ (all : Option (List Operand)) (piece : List spec.Token) (rest others : 
 -- four tokens or more are no expression
 expression-long : (t u v w : spec.Token) (rest : List spec.Token) → expression (t ∷ u ∷ v ∷ w ∷ rest) ≡ None
 expression-long t u v w rest = grind arith
-
-based-none : (offset : Option Expression) → based offset None ≡ None
-based-none None = refl
-based-none (Some offset) = refl
 
 -- by the number of its tokens an operand is an expression, or one before a name in parentheses
 operand-four : (t u v w : spec.Token) → based (expression (t ∷ [])) (in_parentheses u v w)
@@ -144,18 +140,9 @@ operand-long : (tokens : List Token) → 3 ≤ length tokens →
     option_map Value (expression (map token_of tokens)) ≡ operand (map token_of tokens)
 operand-long (a ∷ b ∷ c ∷ []) long other = let none =
     in_parentheses-none (token_of a) (token_of b) (token_of c) other in search rules
-operand-long (a ∷ b ∷ c ∷ d ∷ []) long other =
-    let none = in_parentheses-none (token_of b) (token_of c) (token_of d) other in
-    ap (option_map Value) (expression-long (token_of a) _ _ _ _) ∙ sym (based-none _) ∙ ap (based _) (sym none)
-    ∙ operand-four (token_of a) _ _ _
-operand-long (a ∷ b ∷ c ∷ d ∷ e ∷ []) long other =
-    let none = in_parentheses-none (token_of c) (token_of d) (token_of e) other in
-    ap (option_map Value) (expression-long (token_of a) _ _ _ _) ∙ sym (based-none _) ∙ ap (based _) (sym none)
-    ∙ operand-five (token_of a) _ _ _ _
-operand-long (a ∷ b ∷ c ∷ d ∷ e ∷ f ∷ []) long other =
-    let none = in_parentheses-none (token_of d) (token_of e) (token_of f) other in
-    ap (option_map Value) (expression-long (token_of a) _ _ _ _) ∙ sym (based-none _) ∙ ap (based _) (sym none)
-    ∙ operand-six (token_of a) _ _ _ _ _
+operand-long (a ∷ b ∷ c ∷ d ∷ []) long other = grind arith
+operand-long (a ∷ b ∷ c ∷ d ∷ e ∷ []) long other = grind arith
+operand-long (a ∷ b ∷ c ∷ d ∷ e ∷ f ∷ []) long other = grind arith
 operand-long (a ∷ b ∷ c ∷ d ∷ e ∷ f ∷ g ∷ tokens) long other =
     ap (option_map Value) (expression-long (token_of a) _ _ _ _) ∙ sym (operand-many (token_of a) _ _ _ _ _ _ _)
 operand-long _ long other = absurd (omega arith)

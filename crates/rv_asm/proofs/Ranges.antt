@@ -10,10 +10,7 @@ module _ {X : Type 0} (f g : ℕ → X) (x : X) (b : ℕ) (there : (i : ℕ) →
   -- before b the one value, and after it what the other function gives
   pub split_range : (a m n : ℕ) → a + m ≡ b → ((i : ℕ) → a ≤ i → i < b → f i ≡ x) →
       map f (range_with_len a (m + n)) ≡ replicate m x ++ map g (range_with_len b n)
-  split_range a zero n is here =
-      let first : 0 + n ≡ n = omega arith in
-      let begin : a ≡ b = omega arith in
-      rw (first, begin) (same_after b n (omega arith))
+  split_range a zero n is here = grind (arith, same_after)
   split_range a (suc m) n is here =
       let more : suc m + n ≡ suc (m + n) = omega arith in
       rw more (λ i. here a (omega arith) (omega arith) i

@@ -1,6 +1,6 @@
 -- Reading a line token by token.
-use Rattle.std.proofs.Common.{◌≡◌, ℕ, zero, suc, ◌-◌, ◌<◌, List, [], ◌∷◌, ◌++◌, length}
-use Rattle.std.proofs.Common.{drop, get_or, Option, Some, None, refl, ap, ◌∙◌, arith}
+use Rattle.std.proofs.Common.{◌≡◌, ℕ, zero, suc, ◌-◌, ◌<◌, List, [], ◌∷◌, ◌++◌, length, drop, get_or, Option, Some}
+use Rattle.std.proofs.Common.{None, refl, ap, arith}
 use Rattle.std.specs.Prelude.{option_and_then}
 use Rattle.std.specs.Option.{option_map, option_to_list}
 use Rattle.rv_asm.specs.Token.{Lexeme, first_lexeme, tokens_after, tokens_of}
@@ -30,10 +30,7 @@ pub tokens_of-first : (line : List ℕ) (found : Lexeme) → 0 < length line →
 unfolding tokens_of
 tokens_of-first [] found some_bytes found_is positive = absurd (omega arith)
 tokens_of-first (byte ∷ bytes) found some_bytes found_is positive =
-    tokens_after-first byte bytes (Some found) found_is
-    ∙ ap (option_map (λ tokens. option_to_list found.token ++ tokens))
-    (tokens_after-drop bytes (found.size - 1)
-    ∙ ap (λ rest. tokens_after rest 0) (drop-size byte bytes found.size positive))
+    grind (arith, tokens_after-first, tokens_after-drop, drop-size)
 
 -- a line that does not begin with a lexeme is not made of tokens
 pub tokens_of-none : (line : List ℕ) → 0 < length line → None ≡ first_lexeme (get_or line 0 0) line →

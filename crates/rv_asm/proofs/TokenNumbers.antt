@@ -1,6 +1,6 @@
 -- Whether digits write a number, and what std reads of them.
-use Rattle.std.proofs.Common.{◌≡◌, ◌≢◌, ℕ, zero, suc, ◌<◌, ◌≤◌, Bool, true, false, cond, List, [], ◌∷◌, length, Some}
-use Rattle.std.proofs.Common.{None, Result, Ok, Err, refl, ap, arith}
+use Rattle.std.proofs.Common.{◌≡◌, ◌≢◌, ℕ, zero, suc, ◌<◌, ◌≤◌, List, [], ◌∷◌, Some, None}
+use Rattle.std.proofs.Common.{Result, Err, refl, ap, arith}
 use Rattle.std.specs.Bool.{Decides}
 use Rattle.std.specs.Char.{is_digit, digit_value}
 use Rattle.std.specs.List.{list_all, slice_get, slice_index}
@@ -38,22 +38,12 @@ plus_is_no_digit base [] letters plus all = absurd (cc)
 plus_is_no_digit base (digit ∷ digits) letters plus all = let value : digit_value digit ≡ 36 = ap digit_value plus in
     omega (arith, all.0)
 
-read_if : {E : Type 0} {P : Type 0} (test : Bool) (value : ℕ) (r : Result ℕ E) → Decides test P → OkIff r P value →
-    result_ok r ≡ cond test (Some value) None
-read_if true value (Ok x) tells read = ap Some read.1
-read_if true value (Err e) tells read = absurd (read (tells.0 refl))
-read_if false value (Ok x) tells read = let impossible : false ≡ true = tells.1 read.0 in absurd (cc)
-read_if false value (Err e) tells read = refl
-
 -- what is a number is a numeral that is small
 pub number_in-read : {E : Type 0} (base : ℕ) (digits : List ℕ) (r : Result ℕ E) →
     OkIff r (IsNumeral base digits × (digits_value base digits < 4294967296)) (digits_value base digits) →
     result_ok r ≡ number_in base digits
 unfolding number_in
-number_in-read base digits r read =
-    read_if _ _ r
-    (Decides-and _ _ (Decides-and _ _ (Decides-ltb 0 (length digits)) (digits_decide base digits))
-    (Decides-ltb _ 4294967296)) read
+number_in-read base digits r read = grind (arith, digits_decide)
 
 -- bytes that are not all digits write no number
 pub number_in-none : (base : ℕ) (digits : List ℕ) → (AllDigits base digits → ⊥) → None ≡ number_in base digits

@@ -1,5 +1,5 @@
 -- The account of a path: of one part after another, and that its cycles add up.
-use Rattle.std.proofs.Common.{◌≡◌, ◌∙◌, ℕ, ◌+◌, ◌-◌, ◌<◌, ◌≤◌, List, [], ◌∷◌, ◌++◌, length, refl, ap, arith}
+use Rattle.std.proofs.Common.{◌≡◌, ◌∙◌, ℕ, ◌+◌, ◌<◌, ◌≤◌, List, [], ◌∷◌, ◌++◌, length, refl, ap, arith}
 use Rattle.std.specs.Prelude.{slice_set, sum}
 use Rattle.std.specs.List.{slice_index_or}
 use Rattle.std.proofs.lemmas.List.{length-set}
@@ -42,10 +42,7 @@ counts (event ∷ older) = length-set _ _ _ ∙ counts older
 -- the cycles of all causes add up to those of the path
 pub adds_up : (path : List Event) → sum (account_of path).causes ≡ (account_of path).cycles
 adds_up [] = refl
-adds_up (event ∷ older) =
-    let before = account_of older in
-    sum-with event.reason.cause (event.cycle - before.cycles) before.causes (counts older)
-    ∙ ap (λ n. n + (event.cycle - before.cycles)) (adds_up older)
+adds_up (event ∷ older) = grind (arith, sum-with, counts, adds_up older)
 
 -- They are no more than there were before its end,
 pub cycles-within : (cycles : ℕ) (path : List Event) → AreInTime cycles path → (account_of path).cycles ≤ cycles

@@ -1,5 +1,5 @@
 -- What holds of all that is known when a cycle begins, and is kept with each new event, holds of all that is known after it.
-use Rattle.std.proofs.Common.{◌≡◌, ℕ, ◌+◌, ◌-◌, List, [], ◌∷◌, ◌++◌, length, arith, Option, Some, None, subst, sym}
+use Rattle.std.proofs.Common.{◌≡◌, ℕ, List, [], ◌∷◌, ◌++◌, length, arith, Option, Some, None, subst, sym}
 use Rattle.std.specs.Prelude.{Bool, true, false, IfSome, slice_get, ◌&&◌, if◌then◌else◌}
 use Rattle.std.specs.Option.{option_or}
 use Rattle.rv_hardware.specs.declared.step.Step.{Step}
@@ -9,19 +9,18 @@ use Rattle.rv_rob.specs.declared.entry.Entry.{Entry}
 use Rattle.rv_causes.specs.Event.{Wait, waits, with_events}
 use Rattle.rv_causes.specs.Fetching.{after_redirection, after_room, after_word, anew_by, fetch_event, fetch_wait}
 use Rattle.rv_causes.specs.Fetching.{fetched_by, goes_on, mend_of, new_fetched, room_of}
-use Rattle.rv_causes.specs.Holding.{drain_event, hold_of, hold_of_kind, drain_kept, lines_hold, load_hold, new_holds}
-use Rattle.rv_causes.specs.Holding.{port_event, port_kept, port_taken, taken_event}
-use Rattle.rv_causes.specs.Leaving.{interrupt_event, is_interrupted, leaving_of}
-use Rattle.rv_causes.specs.Leaving.{left_by, left_events, lines_event, newly_left}
+use Rattle.rv_causes.specs.Holding.{drain_event, hold_of, hold_of_kind, lines_hold, load_hold, new_holds, port_event}
+use Rattle.rv_causes.specs.Holding.{port_taken, taken_event}
+use Rattle.rv_causes.specs.Leaving.{interrupt_event, is_interrupted, leaving_of, left_events, lines_event}
 use Rattle.rv_causes.specs.Lookup.{Journey, one_before}
 use Rattle.rv_causes.specs.Moving.{all_moved, all_new}
 use Rattle.rv_causes.specs.Path.{interrupt_taken, known_by, known_in, ways_by}
 use Rattle.rv_causes.specs.Reading.{HardwareRead}
-use Rattle.rv_causes.specs.Setting.{Setting, last_left}
+use Rattle.rv_causes.specs.Setting.{Setting}
 use Rattle.rv_causes.specs.Within.{AreHoldsOf, AreKnown, AreWaysOf, IsBeforeOf, IsWayOf}
-use Rattle.rv_causes.specs.declared.{before.DrainHold.DrainHold, before.Facts.Facts}
-use Rattle.rv_causes.specs.declared.{before.Holder.Holder, before.Left.Left, before.PortHold.PortHold}
-use Rattle.rv_causes.specs.declared.{event.Event.Event, leaving.Leaving.Leaving, point.Reason.Reason, way.Way.Way}
+use Rattle.rv_causes.specs.declared.{before.DrainHold.DrainHold, before.Facts.Facts, before.Holder.Holder}
+use Rattle.rv_causes.specs.declared.{before.PortHold.PortHold, event.Event.Event, leaving.Leaving.Leaving}
+use Rattle.rv_causes.specs.declared.{point.Reason.Reason, way.Way.Way}
 use Rattle.rv_causes.specs.declared.before.Holder.TheVariants as holder
 use Rattle.rv_causes.specs.declared.cause.Cause.TheVariants as cause
 use Rattle.rv_causes.specs.declared.point.Stage.TheVariants as stage
@@ -30,9 +29,8 @@ use Rattle.rv_causes.proofs.EventLists.{J, OJ, append_have, first_have, get_have
 use Rattle.rv_causes.proofs.EventLists.{holds_filter, if_with, in_flight_have, last_have}
 use Rattle.rv_causes.proofs.EventLists.{before_implies, holds_imply, one_before_have}
 use Rattle.rv_causes.proofs.EventLists.{or_with, replicate_have, unwrap_with, ways_imply}
-use Rattle.rv_causes.proofs.Leavings.{AreLeavingOf, drain_new, interrupt_new, leaving_implies}
-use Rattle.rv_causes.proofs.Leavings.{leaving_new, left_events_are, left_events_have}
-use Rattle.rv_causes.proofs.Leavings.{lines_new}
+use Rattle.rv_causes.proofs.Leavings.{drain_new, interrupt_new, leaving_implies, leaving_new, left_events_are}
+use Rattle.rv_causes.proofs.Leavings.{left_events_have, lines_new}
 use Rattle.rv_causes.proofs.News.{AllOf, IsKept, IsNew, all_back, all_both, all_front}
 use Rattle.rv_causes.proofs.News.{all_imply, all_new_have, known_still, new_implies}
 use Rattle.rv_causes.proofs.News.{wait_has, wait_still, with_both}
@@ -65,20 +63,6 @@ port_has : (P N Q : Event → Type 0) → ((event : Event) → P event → Q eve
     → AllOf Q (port_event o) → IfSome o (λ hold. Q hold.event)
 port_has P N Q implies None is are = tt
 port_has P N Q implies (Some hold) is are = taken_has P N Q implies hold.holder hold.event is are
-
--- of those that go on
-port_kept_has : (Q : Event → Type 0) (number : ℕ) (o : Option PortHold) → IfSome o (λ hold. Q hold.event)
-    → IfSome (port_kept number o) (λ hold. Q hold.event)
-port_kept_has Q number o is = grind (arith, if_with)
-
-drain_kept_has : (Q : Event → Type 0) (number : ℕ) (o : Option DrainHold) → IfSome o (λ drain. Q drain.event)
-    → IfSome (drain_kept number o) (λ drain. Q drain.event)
-drain_kept_has Q number o is = grind (arith, if_with)
-
-left_or : (Q : Event → Type 0) (new old : Option Left) → IfSome new (λ left. Q left.event) → Q (last_left old)
-    → Q (last_left (option_or new old))
-left_or Q None old new-is old-is = old-is
-left_or Q (Some left) old new-is old-is = new-is
 
 -- where a drain begins, it takes the port
 drain_has : (Q : Event → Type 0) (taken begun : Bool) (drain : DrainHold) (hold : PortHold) (other : Option PortHold)
@@ -146,9 +130,7 @@ module _ (s : Setting) (P : Event → Type 0) where
       AreHoldsOf P (new_holds s.number s.values ps ws)
   new_holds_have [] ws are = tt
   new_holds_have (p ∷ ps) [] are = tt
-  new_holds_have (p ∷ ps) (w ∷ ws) are =
-      holds_append P (hold_of s.number s.values p w p.issue) (new_holds s.number s.values ps ws)
-      (hold_of_has p w p.issue are.0) (new_holds_have ps ws are.1)
+  new_holds_have (p ∷ ps) (w ∷ ws) are = grind (arith, holds_append, hold_of_has, new_holds_have ps ws are.1)
 
   load_hold_has : (N : Event → Type 0) (until : ℕ) (o : Option Journey) → OJ P o →
       IfSome (load_hold until o) (IsTakenBy P N)
@@ -169,18 +151,6 @@ module _ (s : Setting) (P : Event → Type 0) where
       grind (arith, if_with, or_with, load_hold_has, first_have, lines_hold_has)
 
 module _ (s : Setting) (P : List Event → Event → Type 0) (kept : IsKept s.elapsed P) where
-  -- that of what left, and of the words that were fetched
-  left_by_has : (Q : Event → Type 0) (count : ℕ) (o : Option Event) → IfSome o Q →
-      IfSome (left_by s count o) (λ left. Q left.event)
-  left_by_has Q count None is = tt
-  left_by_has Q count (Some event) is = is
-
-  newly_left_has : (Q : Event → Type 0) (interrupted : Bool) (leaving : Leaving) →
-      AllOf Q (interrupt_taken s interrupted)
-      → AreLeavingOf Q leaving
-      → IfSome (newly_left s interrupted leaving) (λ left. Q left.event)
-  newly_left_has Q interrupted leaving are gone = grind (arith, left_by_has)
-
   interrupts_new : (Q : Event → Type 0) (interrupted : Bool) → Q (interrupt_event s) →
       AllOf Q (interrupt_taken s interrupted)
   interrupts_new Q true is = (is, tt)
@@ -217,21 +187,18 @@ module _ (s : Setting) (P : List Event → Event → Type 0) (kept : IsKept s.el
       → AllOf Q (port_event (port_taken s now leaving after.facts))
       → IfSome (port_taken s now leaving after.facts) (λ hold. Q hold.event)
       → (old : List Way) (all : List Event) → AreKnown Q (known_by s old now all steps after leaving)
-  known_next Q now steps after leaving known fetch interrupts ports port old all = grind (
-    arith,
-    in_flight_have,
-    append_have,
-    fetched_have,
-    holds_append,
-    holds_filter,
-    new_holds_have,
-    left_or,
-    newly_left_has,
-    or_with,
-    port_kept_has,
-    drain_has,
-    drain_kept_has,
-  )
+  known_next Q now steps after leaving known fetch interrupts ports port old all =
+      grind (
+        arith,
+        in_flight_have,
+        append_have,
+        fetched_have,
+        holds_append,
+        holds_filter,
+        new_holds_have,
+        or_with,
+        drain_has,
+      )
 
   -- those of the cycle one after another
   in_turn : (left moves interrupts ports fetches all : List Event)

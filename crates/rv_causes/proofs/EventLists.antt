@@ -1,11 +1,10 @@
 -- What holds of each event of lists, and of what is found among them.
 use Rattle.std.proofs.Common.{ℕ, zero, suc, List, [], ◌∷◌, ◌++◌, filter, replicate, Option, Some, None, arith}
-use Rattle.std.specs.Prelude.{Bool, true, false, if◌then◌else◌, IfSome, ◌-◌, slice_get, slice_set}
+use Rattle.std.specs.Prelude.{Bool, true, false, if◌then◌else◌, IfSome, slice_get, slice_set}
 use Rattle.std.specs.Option.{option_or, unwrap_or}
-use Rattle.rv_passage.specs.Passage.{is_in_flight}
 use Rattle.rv_passage.specs.declared.passage.{Passage.Passage}
-use Rattle.rv_causes.specs.Lookup.{Journey, first_of, journey_of, last_of, one_before, sought_of}
-use Rattle.rv_causes.specs.Path.{Known, still_in_flight, way_if}
+use Rattle.rv_causes.specs.Lookup.{Journey, first_of, journey_of, last_of, one_before}
+use Rattle.rv_causes.specs.Path.{Known, still_in_flight}
 use Rattle.rv_causes.specs.Sought.{is_sought}
 use Rattle.rv_causes.specs.Within.{AreHoldsOf, AreKnown, AreWaysOf, IsBeforeOf, IsWayOf}
 use Rattle.rv_causes.specs.declared.{before.Before.Before, before.UnitHold.UnitHold, event.Event.Event}
@@ -34,12 +33,6 @@ pub unwrap_with : {X : Type 0} (Q : X → Type 0) (o : Option X) (d : X) → IfS
 unwrap_with Q None d o-is d-is = d-is
 unwrap_with Q (Some x) d o-is d-is = o-is
 
--- those that are found have their events among all
-pub sought_have : (P : Event → Type 0) (sought : Sought) (p : Passage) (w : Way) → IsWayOf P w →
-    IfSome (sought_of sought p w) (J P)
-sought_have P sought p w within =
-    if_with (OJ P) (is_sought sought p) within tt
-
 -- it holds of the first that is sought
 pub first_have : (P : Event → Type 0) (sought : Sought) (ps : List Passage) (ws : List Way) → AreWaysOf P ws
     → IfSome (first_of sought ps ws) (J P)
@@ -53,9 +46,7 @@ pub last_have : (P : Event → Type 0) (sought : Sought) (ps : List Passage) (ws
     → IfSome (last_of sought ps ws) (J P)
 last_have P sought [] ws within = tt
 last_have P sought (p ∷ ps) [] within = tt
-last_have P sought (p ∷ ps) (w ∷ ws) within =
-    or_with (J P) (last_of sought ps ws) (sought_of sought p w) (last_have P sought ps ws within.1)
-    (sought_have P sought p w within.0)
+last_have P sought (p ∷ ps) (w ∷ ws) within = grind (arith, or_with, last_have P sought ps ws within.1)
 
 -- it holds of the one at a place
 pub get_have : (P : Event → Type 0) (ws : List Way) (place : ℕ) → AreWaysOf P ws →
@@ -79,9 +70,7 @@ pub in_flight_have : (P : Event → Type 0) (ps : List Passage) (ws : List Way) 
     AreWaysOf P (still_in_flight ps ws)
 in_flight_have P [] ws within = tt
 in_flight_have P (p ∷ ps) [] within = tt
-in_flight_have P (p ∷ ps) (w ∷ ws) within =
-    append_have P (way_if (is_in_flight p) w) (still_in_flight ps ws)
-    (if_with (AreWaysOf P) (is_in_flight p) (within.0, tt) tt) (in_flight_have P ps ws within.1)
+in_flight_have P (p ∷ ps) (w ∷ ws) within = grind (arith, in_flight_have P ps ws within.1)
 
 -- it holds of two lists of holds, one after the other
 pub holds_append : (P : Event → Type 0) (hs gs : List UnitHold) → AreHoldsOf P hs → AreHoldsOf P gs →

@@ -7,9 +7,9 @@ use Rattle.rv_passage.specs.declared.passage.Passage.{Passage}
 use Rattle.rv_causes.specs.Event.{Wait, again_by, waits}
 use Rattle.rv_causes.specs.Holding.{at_its_commit, drain_event}
 use Rattle.rv_causes.specs.Leaving.{first_to_leave, interrupt_event, known_in, leaves_after, leaving_event, leaving_of}
-use Rattle.rv_causes.specs.Leaving.{left_events, lines_after, lines_event, none_left, with_event, with_row, with_rows}
+use Rattle.rv_causes.specs.Leaving.{left_events, lines_after, lines_event, none_left, with_row, with_rows}
 use Rattle.rv_causes.specs.Setting.{Setting, after_port, after_stores, last_left, made, made_of}
-use Rattle.rv_causes.specs.Sought.{is_end, is_just_before}
+use Rattle.rv_causes.specs.Sought.{is_just_before}
 use Rattle.rv_causes.specs.WaitingStores.{oldest}
 use Rattle.rv_causes.specs.Way.{broadcast_by, dispatched_by}
 use Rattle.rv_causes.specs.Within.{AreHoldsOf, AreWaysOf, IsBeforeOf, IsWayOf}
@@ -76,16 +76,9 @@ module _ (s : Setting) (P : Event → Type 0) (holds : AreHoldsOf P s.holds) (be
       (waits_VR stage.Commit p cause.Commit (broadcast_by w) (broadcast_have P w w-is))
       (leaves_after_V earlier p w earlier-is w-is)
 
-  with_event_N : (event : Event) (p : Passage) (leaving : Leaving) → N event → AreLeavingOf N leaving
-      → AreLeavingOf N (with_event s event p leaving)
-  with_event_N event p leaving is are = grind (arith, or_with, if_with)
-
   with_row_N : (p : Passage) (w : Way) (leaving : Leaving) → IsWayOf P w → AreLeavingOf N leaving →
       AreLeavingOf N (with_row s p w leaving)
-  with_row_N p w leaving w-is are =
-      if_with (AreLeavingOf N) (is_end p.ending)
-      (with_event_N (leaving_event s leaving.last p w) p leaving (leaving_event_N leaving.last p w are.last w-is) are)
-      are
+  with_row_N p w leaving w-is are = grind (arith, leaving_event_N)
 
   with_rows_N : (ps : List Passage) (ws : List Way) (leaving : Leaving) → AreWaysOf P ws → AreLeavingOf N leaving
       → AreLeavingOf N (with_rows s ps ws leaving)

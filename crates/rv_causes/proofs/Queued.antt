@@ -15,6 +15,4 @@ after_next (s ∷ ss) (suc place) waiting here = after_next ss place waiting (om
 pub queued_on : (stores : List Store) (place : ℕ) (waiting : List (Option ℕ)) → place < length stores
     → with_queue (drop (place + 1) stores) (with_queued (slice_get stores place) waiting)
     ≡ with_queue (drop place stores) waiting
-queued_on stores place waiting here =
-    let next : place + 1 ≡ suc place = omega arith in
-    rw next (after_next stores place waiting here)
+queued_on stores place waiting here = grind (arith, after_next)

@@ -1,12 +1,12 @@
 -- What an event of a cycle waits for is one that was known: what holds of a wait for any of those holds of each that is chosen.
 use Rattle.std.proofs.Common.{ℕ, ◌+◌, List, [], ◌∷◌, Option, Some, None, arith}
-use Rattle.std.specs.Prelude.{IfSome, ◌==◌, not, ◌&&◌, nat_lt}
+use Rattle.std.specs.Prelude.{IfSome, ◌==◌, not, ◌&&◌}
 use Rattle.rv_isa.specs.declared.operations.Kind.{Kind}
 use Rattle.rv_passage.specs.declared.{passage.Passage.Passage, producers.Producer.Producer}
 use Rattle.rv_causes.specs.Event.{Wait, nothing_yet, waits}
 use Rattle.rv_causes.specs.Issuing.{after_broadcast, after_bus, after_hold_of, after_issue, after_older_store}
 use Rattle.rv_causes.specs.Issuing.{after_producer, after_stores_known, after_units, after_units_of, broadcast_wait}
-use Rattle.rv_causes.specs.Issuing.{has_ended, hold_among, issue_after, issue_wait, older_hold}
+use Rattle.rv_causes.specs.Issuing.{hold_among, issue_after, issue_wait}
 use Rattle.rv_causes.specs.Leaving.{after_left, after_left_before, first_to_leave, own_lines}
 use Rattle.rv_causes.specs.Lookup.{Journey, first_of, last_of}
 use Rattle.rv_causes.specs.Setting.{Setting, after_drain_at, after_drain_before, after_hold, after_leaving, after_port}
@@ -143,15 +143,9 @@ module _ (s : Setting) (P : Event → Type 0) (V : Wait → Type 0) (waits_V : (
     after_stores_known_V : (p : Passage) → O (after_stores_known s ws p)
     after_stores_known_V p = grind (arith, if_with, after_older_store_V, first_J)
 
-    older_hold_V : (hold : UnitHold) (o : Option UnitHold) → U hold → OU o → U (older_hold hold o)
-    older_hold_V hold None hold-is o-is = hold-is
-    older_hold_V hold (Some other) hold-is o-is = if_with U (nat_lt other.number hold.number) o-is hold-is
-
     hold_among_V : (kind : Kind) (hs : List UnitHold) → AreHoldsOf P hs → OU (hold_among s kind hs)
     hold_among_V kind [] are = tt
-    hold_among_V kind (h ∷ hs) are =
-        if_with OU (has_ended s kind h) (older_hold_V h (hold_among s kind hs) are.0 (hold_among_V kind hs are.1))
-        (hold_among_V kind hs are.1)
+    hold_among_V kind (h ∷ hs) are = grind (arith, hold_among_V kind hs are.1)
 
     after_hold_of_V : (kind : Kind) (o : Option UnitHold) → OU o → O (after_hold_of kind o)
     after_hold_of_V kind None is = tt

@@ -1,7 +1,5 @@
 -- The cycles of an address, by its place among words in order.
-use Rattle.std.proofs.Common.{◌≡◌, ℕ, zero, suc, ◌<◌, nat_lt, List, [], ◌∷◌, length, get_or, refl, sym, arith}
-use Rattle.std.proofs.Common.{eq-eqb, ne_eqb, inl, inr}
-use Rattle.std.proofs.lemmas.Bool.{cases_Bool, ltb-true, ltb-false}
+use Rattle.std.proofs.Common.{◌≡◌, ℕ, zero, suc, ◌<◌, List, [], ◌∷◌, length, get_or, refl, sym, arith, eq-eqb, ne_eqb}
 use Rattle.rv_passage.specs.ByAddress.{IsPlaceFor, IsPlaceOf}
 use Rattle.rv_causes.specs.Account.{AreWithin, IsWithin, address_of, cycles_at}
 use Rattle.rv_causes.specs.declared.word_cycles.WordCycles.{WordCycles}
@@ -41,7 +39,4 @@ module _ (address : ℕ) (words : List WordCycles) (place : ℕ) where
 
   -- and none where there is no word of it
   pub cycles-none : IsPlaceFor address_of address place words → 0 ≡ cycles_at address words
-  cycles-none is = sym (found-none address words (λ k w within same. elim (cases_Bool (nat_lt k place)) [
-    | inl below ↦ let low = is.before k w (ltb-true k place below) in omega (arith, same, low)
-    | inr not_below ↦ let high = is.after k w (ltb-false k place not_below) within in omega (arith, same, high)
-  ]))
+  cycles-none is = grind (arith, found-none)

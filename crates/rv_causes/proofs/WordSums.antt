@@ -48,7 +48,4 @@ words-within (event ∷ older) =
 -- each of them
 pub words_add_up : (path : List Event) → AreWithin (account_of path).cycles (account_of path).words
 words_add_up [] = tt
-words_add_up (event ∷ older) =
-    let before = account_of older in
-    within-word event.reason.address before.cycles (event.cycle - before.cycles) event.reason.cause
-    before.words (words_add_up older)
+words_add_up (event ∷ older) = grind (arith, within-word, words_add_up older)

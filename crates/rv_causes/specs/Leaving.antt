@@ -1,6 +1,6 @@
 -- The instructions that leave the hardware in a cycle, and the lines that the oldest one writes back.
-use Rattle.std.specs.Prelude.{◌≡◌, ℕ, ◌==◌, ◌&&◌, not, Bool, true, false, if◌then◌else◌}
-use Rattle.std.specs.Prelude.{List, [], ◌∷◌, ◌++◌, count_by, Option, Some, None}
+use Rattle.std.specs.Prelude.{◌≡◌, ℕ, ◌==◌, ◌&&◌, not, Bool, if◌then◌else◌, List, [], ◌∷◌, ◌++◌, count_by, Option, Some}
+use Rattle.std.specs.Prelude.{None}
 use Rattle.std.specs.Option.{option_or, option_to_list, unwrap_or}
 use Rattle.std.specs.List.{list_any}
 use Rattle.rv_hardware.specs.Step.{is_interrupt}

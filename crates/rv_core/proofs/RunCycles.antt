@@ -1,12 +1,12 @@
 -- What is reported of the cycles of a run, with each cycle that comes.
-use Rattle.rv_core.proofs.Words.{◌≡◌, subst, lines_at, Lines, Guide, Hardware}
-use Rattle.rv_core.proofs.Words.{Reachable, guided, IsCommitStop, Stop, Option}
-use Rattle.rv_core.proofs.Words.{IsNextCycle, report_with, reported_with, List, [], refl, ◌∙◌, Arrival}
-use Rattle.rv_core.proofs.Words.{Report, steps_of, GuidedCycles, GuidedHardware, guided_ended as ended, Step}
-use Rattle.rv_core.proofs.Words.{progress_after, progress_of, IsRun, Progress}
+use Rattle.std.proofs.Common.{arith}
+use Rattle.rv_core.proofs.Words.{◌≡◌, lines_at, Lines, Guide, Hardware, Reachable, guided, IsCommitStop, Stop, Option}
+use Rattle.rv_core.proofs.Words.{IsNextCycle, report_with, reported_with, List, [], refl, ◌∙◌, Arrival, Report}
+use Rattle.rv_core.proofs.Words.{steps_of, GuidedCycles, GuidedHardware, guided_ended as ended, Step, progress_after}
+use Rattle.rv_core.proofs.Words.{progress_of, IsRun, Progress}
 use Rattle.rv_hardware.specs.Promise.{Reported}
 use Rattle.rv_core.specs.Taking.{TakesNextCycle}
-use Rattle.rv_core.specs.Reported.{DoesCycle, TakesCycle}
+use Rattle.rv_core.specs.Reported.{TakesCycle}
 use Rattle.rv_core.specs.declared.outcome.CycleEnd.{CycleEnd}
 use Rattle.rv_core.specs.declared.steps.Steps.{Steps}
 
@@ -33,16 +33,7 @@ pub next_cycle : {arrivals : List Arrival} {old new : Hardware} {taught learned 
     progress' ≡ progress_after (report_with done.0 end) progress →
     TakesNextCycle arrivals old taught new learned steps steps' progress progress' end.stop
 next_cycle {old = old} {new = new} {taught = taught} {learned = learned} lines end done reached are reason counts =
-    record {
-      reached = reached;
-      report = report_with done.0 end;
-      cycle = subst (λ l. DoesCycle l old taught (report_with done.0 end) new learned) are done.3;
-      few = done.2;
-      taken = done.1;
-      counted = counts;
-      stop_is = refl;
-      reason = reason;
-    }
+    grind arith
 
 -- such a cycle, by the steps that it reports
 abbrev pub next_reported : {arrivals : List Arrival} {old new : Hardware} {taught learned : Guide}

@@ -1,4 +1,5 @@
 -- The promise is kept by the run of the described hardware, and the reason why it stops is true.
+use Rattle.std.proofs.Common.{arith}
 use Rattle.rv_core.proofs.Words.{ℕ, List, sym, subst, Arrival, Stop, OnlyLastStops, IsTrueStop, Report, IsStop}
 use Rattle.rv_core.proofs.Words.{Reachable, layout_of, seen, IfOk, MatchResult, Result, GuidedHardware}
 use Rattle.rv_core.proofs.Words.{IsCutShort, IsOutcome, IsRun, KeepsPromise, reported, reported_so_far}
@@ -19,11 +20,7 @@ module _ (arrivals : List Arrival) (limit : ℕ) (old new : GuidedHardware) (rea
     stop_of : (reason : Stop) → IsStop limit reports new.hardware reason →
         IsTrueStop (layout_of old.hardware.values) arrivals limit old.hardware.cycle new.hardware.cycle done.steps
         (seen new.hardware) reason
-    stop_of reason stops =
-        subst (λ (all : Reported). IsTrueStop (layout_of old.hardware.values) arrivals limit old.hardware.cycle
-        new.hardware.cycle all.steps (seen new.hardware) reason)
-        (sym run.reported_is)
-        (headline_of_stop arrivals limit old.hardware new.hardware reports reason reached (cycles_of run.cycled) stops)
+    stop_of reason stops = grind (arith, headline_of_stop, cycles_of)
 
   module _ (ended : Result Outcome OutOfMemory)
       (is : MatchResult ended (IsOutcome arrivals limit old new) (IsCutShort arrivals limit old new)) where

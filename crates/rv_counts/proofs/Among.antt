@@ -1,6 +1,5 @@
 -- Where no instruction is so that does not pass a test, as many are so among those that pass it as among all.
-use Rattle.std.proofs.Common.{◌≡◌, ◌∙◌, Bool, false, List, [], ◌∷◌, length, filter, count_by, refl, sym, ap, inl, inr}
-use Rattle.std.proofs.lemmas.Bool.{cases_Bool}
+use Rattle.std.proofs.Common.{◌≡◌, ◌∙◌, Bool, false, List, [], ◌∷◌, length, filter, count_by, refl, sym, ap, arith}
 use Rattle.std.proofs.lemmas.List.Sums.{length-filter}
 use Rattle.rv_passage.specs.declared.passage.Passage.{Passage}
 
@@ -8,13 +7,7 @@ module _ (passes test : Passage → Bool) (fails : (p : Passage) → passes p �
   -- they are the same ones
   pub filter-among : (ps : List Passage) → filter test (filter passes ps) ≡ filter test ps
   filter-among [] = refl
-  filter-among (p ∷ ps) = elim (cases_Bool (passes p)) [
-    | inl passed ↦ elim (cases_Bool (test p)) [
-      | inl is ↦ rw passed (rw is (ap (λ l. p ∷ l) (filter-among ps)))
-      | inr other ↦ rw passed (rw other (filter-among ps))
-    ]
-    | inr failed ↦ rw (failed, fails p failed) (filter-among ps)
-  ]
+  filter-among (p ∷ ps) = grind (arith, filter-among ps)
 
   pub count-among : (ps : List Passage) → count_by test (filter passes ps) ≡ count_by test ps
   count-among ps = sym (length-filter test (filter passes ps)) ∙ ap length (filter-among ps) ∙ length-filter test ps

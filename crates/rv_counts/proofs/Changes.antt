@@ -37,20 +37,14 @@ module _ (address : ℕ) (change : WordCounts → WordCounts) where
     -- it has the address, and each that it had
     pub has-change : (words : List WordCounts) → HasAddress address (with_change address change words)
     has-change [] = inl (keeps (nothing_at address))
-    has-change (w ∷ ws) =
-        by_place address_of nothing_at address change (HasAddress address) w ws (λ is. inl (keeps w ∙ is))
-        (λ above. inl (keeps (nothing_at address))) (λ below. inr (has-change ws))
+    has-change (w ∷ ws) = grind (arith, has-change ws)
 
     -- an address that has counts keeps them
     pub has-kept : (other : ℕ) (words : List WordCounts) → HasAddress other words →
         HasAddress other (with_change address change words)
     has-kept other [] has = absurd has
-    has-kept other (w ∷ ws) (inl is) =
-        by_place address_of nothing_at address change (HasAddress other) w ws (λ here. inl (keeps w ∙ is))
-        (λ above. inr (inl is)) (λ below. inl is)
-    has-kept other (w ∷ ws) (inr later) =
-        by_place address_of nothing_at address change (HasAddress other) w ws (λ here. inr later) (λ above. inr (inr later))
-        (λ below. inr (has-kept other ws later))
+    has-kept other (w ∷ ws) (inl is) = grind arith
+    has-kept other (w ∷ ws) (inr later) = grind (arith, has-kept other ws later)
 
 -- none of a lower address is among those above
 above-lacks : (address : ℕ) (words : List WordCounts) → AreAbove address words → HasAddress address words → ⊥
@@ -85,9 +79,7 @@ module _ (address : ℕ) (change : WordCounts → WordCounts) (old new : ℕ →
 
   fresh : (words : List WordCounts) → Lists words → (HasAddress address words → ⊥) →
       change (nothing_at address) ≡ new address
-  fresh words lists lacks =
-      let unseen : times_of (old address) ≡ 0 = none_of (times_of (old address)) (λ some. lacks (lists some)) in
-      ap change (sym (none unseen)) ∙ here
+  fresh words lists lacks = grind arith
 
   above_all : (w : WordCounts) (ws : List WordCounts) → address < w.address → AreAbove w.address ws →
       AreAbove address (w ∷ ws)

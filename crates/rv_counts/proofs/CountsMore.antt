@@ -1,6 +1,6 @@
 -- The counts at an address, with one passage more or one more cycle at the head.
-use Rattle.std.proofs.Common.{◌≡◌, ◌∙◌, ℕ, ◌+◌, ◌==◌, Bool, true, false, List, [], ◌∷◌, length, filter}
-use Rattle.std.proofs.Common.{count_by, Option, Some, None, cond, refl, ap, sym, arith, eq-eqb, ne_eqb}
+use Rattle.std.proofs.Common.{◌≡◌, ◌∙◌, ℕ, ◌+◌, ◌==◌, Bool, true, false, List, [], ◌∷◌, length, filter, count_by}
+use Rattle.std.proofs.Common.{Option, Some, None, cond, refl, ap, sym, arith, eq-eqb}
 use Rattle.std.specs.List.{cons_option, filter_map}
 use Rattle.std.proofs.lemmas.List.Sums.{sum_by-cons}
 use Rattle.rv_passage.specs.Passage.{is_retirement, is_squash}
@@ -99,19 +99,12 @@ module _ (costs : LoadCosts) (address heads : ℕ) (p : Passage) (ps : List Pass
       }
 
   by_ending : (e : Ending) → p.ending ≡ e → counts_of costs address (p ∷ ps) heads ≡ added costs p counts
-  by_ending (ending.Retired order cycle written next) is =
-      let here : retired_of (p ∷ ps) ≡ p ∷ retired_of ps = rw is refl in
-      more counts.squashed (p ∷ retired_of ps) (squashed false (ap is_squash is)) here ∙ with_one (retired_of ps)
-      ∙ added-by (ending.Retired order cycle written next) is
+  by_ending (ending.Retired order cycle written next) is = grind (arith, with_one)
   by_ending (ending.Squashed cycle) is =
       more (counts.squashed + 1) (retired_of ps) (squashed true (ap is_squash is))
       (kept (ending.Squashed cycle) is refl) ∙ added-by (ending.Squashed cycle) is
-  by_ending (ending.Trapped cycle cause) is =
-      more counts.squashed (retired_of ps) (squashed false (ap is_squash is))
-      (kept (ending.Trapped cycle cause) is refl) ∙ added-by (ending.Trapped cycle cause) is
-  by_ending ending.InFlight is =
-      more counts.squashed (retired_of ps) (squashed false (ap is_squash is)) (kept ending.InFlight is refl)
-      ∙ added-by ending.InFlight is
+  by_ending (ending.Trapped cycle cause) is = grind arith
+  by_ending ending.InFlight is = grind arith
 
   -- one more passage at the address
   pub counts_of-cons : counts_of costs address (p ∷ ps) heads ≡ added costs p counts
@@ -133,10 +126,7 @@ module _ (costs : LoadCosts) (passages : List Passage) (heads : List ℕ) where
   -- and those at no other
   pub counts_at-other : (p : Passage) (address : ℕ) → (address ≡ p.pc → ⊥) →
       counts_at costs (p ∷ passages) heads address ≡ counts_at costs passages heads address
-  counts_at-other p address other =
-      let past : filter (is_at address) (p ∷ passages) ≡ filter (is_at address) passages =
-      rw (ne_eqb p.pc address (λ is. other (sym is))) refl in
-      ap (λ those. counts_of costs address those (head_count heads address)) past
+  counts_at-other p address other = grind arith
 
   head_count-cons : (head address : ℕ) (is : Bool) → (head == address) ≡ is →
       head_count (head ∷ heads) address ≡ one_more is (head_count heads address)
@@ -148,16 +138,12 @@ module _ (costs : LoadCosts) (passages : List Passage) (heads : List ℕ) where
   -- one more cycle at the head changes the counts at its address
   pub counts_at-head : (head : ℕ) → once_more_at_head (counts_at costs passages heads head)
       ≡ counts_at costs passages (head ∷ heads) head
-  counts_at-head head =
-      sym (ap (λ count. counts_of costs head (filter (is_at head) passages) count)
-      (head_count-cons head head true (eq-eqb head head refl)))
+  counts_at-head head = grind (arith, head_count-cons)
 
   -- and those at no other
   pub counts_at-other_head : (head address : ℕ) → (address ≡ head → ⊥) →
       counts_at costs passages (head ∷ heads) address ≡ counts_at costs passages heads address
-  counts_at-other_head head address other =
-      ap (λ count. counts_of costs address (filter (is_at address) passages) count)
-      (head_count-cons head address false (ne_eqb head address (λ is. other (sym is))))
+  counts_at-other_head head address other = grind arith
 
   nothing_of : (address : ℕ) (those : List Passage) (count : ℕ) → length those + count ≡ 0 →
       counts_of costs address those count ≡ nothing_at address

@@ -35,14 +35,4 @@ module _ {X : Type 0} (test : X → Bool) where
       found' ≡ cond answer (found + 1) found →
       (found' ≡ count_by test (take (place + 1) xs)) × (found' ≤ place + 1)
   counted_on xs place found found' x d answer within is answered so_far more =
-      let here = sym (ap test is) in
-      elim (cases_Bool (test x)) [
-        | inl passes ↦
-            let one = more ∙ ap (λ b. cond b (found + 1) found) (answered ∙ passes) in
-            let next = count_by_more_yes test xs place d within (here ∙ passes) in
-            (omega (arith, so_far.0, one, next), omega (arith, so_far.1, one))
-        | inr fails ↦
-            let none = more ∙ ap (λ b. cond b (found + 1) found) (answered ∙ fails) in
-            let next = count_by_more_no test xs place d within (here ∙ fails) in
-            (omega (arith, so_far.0, none, next), omega (arith, so_far.1, none))
-      ]
+      grind (arith, count_by_more_yes, count_by_more_no)

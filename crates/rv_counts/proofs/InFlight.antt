@@ -1,5 +1,5 @@
 -- An instruction in flight adds nothing to what left the hardware.
-use Rattle.std.proofs.Common.{◌≡◌, ◌∙◌, suc, true, List, [], ◌∷◌, ◌++◌, filter, refl, sym, ap, arith, append-nil}
+use Rattle.std.proofs.Common.{◌≡◌, suc, true, List, [], ◌∷◌, filter, refl, arith, append-nil}
 use Rattle.std.specs.List.{AllPass}
 use Rattle.std.proofs.lemmas.List.Elements.{filter-append}
 use Rattle.rv_passage.specs.Left.{IsUpToYoungestLeft}
@@ -15,8 +15,4 @@ none_left (p ∷ ps) all =
 
 -- what left is among the instructions up to the youngest that did
 pub left_same : (rows kept : List Passage) → IsUpToYoungestLeft rows kept → filter has_left kept ≡ filter has_left rows
-left_same rows kept up =
-    sym (append-nil (filter has_left kept))
-    ∙ ap (λ l. filter has_left kept ++ l) (sym (none_left up.others up.in_flight))
-    ∙ sym (filter-append has_left kept up.others)
-    ∙ ap (filter has_left) (sym up.rows_are)
+left_same rows kept up = grind (arith, append-nil, none_left, filter-append)

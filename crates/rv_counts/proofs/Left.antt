@@ -15,9 +15,7 @@ use Rattle.rv_counts.proofs.Rooms.{filter-le}
 left_in-push : (cycles : List FollowedCycle) (last : FollowedCycle) →
     left_in (cycles ++ last ∷ []) ≡ filter has_left last.passages.rows ++ left_in cycles
 left_in-push [] last = sym (append-nil (filter has_left last.passages.rows))
-left_in-push (cycle ∷ cycles) last =
-    ap (λ left. left ++ filter has_left cycle.passages.rows) (left_in-push cycles last)
-    ∙ append_assoc (filter has_left last.passages.rows) (left_in cycles) (filter has_left cycle.passages.rows)
+left_in-push (cycle ∷ cycles) last = grind (arith, append_assoc, left_in-push cycles last)
 
 -- one more cycle, with these passages at its end
 module _ {arrivals : List Arrival} {first now : GuidedHardware} {moments : List Moment}
@@ -35,14 +33,4 @@ module _ {arrivals : List Arrival} {first now : GuidedHardware} {moments : List 
   pub some_left-push : length rows ≤ 576 → last.after.cycle ≡ now.hardware.cycle + 1 →
       length (left_after first.hardware moments) ≤ 576 * now.hardware.cycle
       → length (left_after first.hardware (moments ++ last ∷ [])) ≤ 576 * last.after.cycle
-  some_left-push few one_more some_left =
-      omega (
-        arith,
-        some_left,
-        filter-le has_left rows,
-        few,
-        one_more,
-        ap length left-push,
-        length-append
-            (filter has_left rows) (left_after first.hardware moments),
-      )
+  some_left-push few one_more some_left = grind (arith, filter-le, left-push, length-append)

@@ -1,9 +1,8 @@
 -- The places of a cycle are lost for what ended its dispatch phase.
-use Rattle.std.proofs.Common.{◌≡◌, ◌∙◌, ◌⊎◌, ℕ, suc, ◌^◌, ◌<◌, ◌≤◌, ◌&&◌, nat_le, Bool, true, false, cond, List, []}
-use Rattle.std.proofs.Common.{◌∷◌, ◌++◌, length, Option, Some, None, inl, inr, refl, ap, sym, arith, lt-ltb, le-ltb}
+use Rattle.std.proofs.Common.{◌≡◌, ◌∙◌, ◌⊎◌, ℕ, suc, ◌^◌, ◌<◌, ◌≤◌, Bool, true, false, cond, List, [], ◌∷◌, ◌++◌}
+use Rattle.std.proofs.Common.{Option, Some, None, inl, inr, refl, ap, sym, arith, lt-ltb, le-ltb}
 use Rattle.std.specs.List.{slice_get}
 use Rattle.rv_isa.specs.Arrivals.{lines_at}
-use Rattle.rv_isa.specs.Instruction.{is_store, kind_of_word}
 use Rattle.rv_isa.specs.declared.{lines.Arrival.Arrival, lines.Lines.Lines, operations.Kind.Kind, values.Values.Values}
 use Rattle.rv_cache.specs.WriteBack.{Each}
 use Rattle.rv_front.specs.declared.fetched.Fetched.{Fetched}
@@ -15,7 +14,6 @@ use Rattle.rv_hardware.specs.Hardware.{Hardware}
 use Rattle.rv_hardware.specs.History.{History, Moment, ended, cycled}
 use Rattle.rv_hardware.specs.Report.{Report}
 use Rattle.rv_hardware.specs.Run.{Reachable, by_cycle}
-use Rattle.rv_hardware.specs.Seen.{stores_after}
 use Rattle.rv_hardware.specs.declared.report.Stall.{Stall}
 use Rattle.rv_hardware.specs.declared.report.Stall.TheVariants as stall
 use Rattle.rv_hardware.proofs.AnyPrediction.{any_cycle}
@@ -24,8 +22,8 @@ use Rattle.rv_hardware.proofs.Marks.History.{reachable_has_history, sent_all}
 use Rattle.rv_hardware.proofs.Marks.Sound.{SoundFetched}
 use Rattle.rv_hardware.proofs.Repeated.{Leads, turns_within}
 use Rattle.rv_hardware.proofs.Turns.Fetch.{IsNew}
-use Rattle.rv_counts.specs.Places.{AreLostFor, awaited_in, has_serialising, loss_by}
-use Rattle.rv_counts.specs.Places.{loss_in, loss_of, loss_of_kind, places_in, stall_for}
+use Rattle.rv_counts.specs.Places.{AreLostFor, awaited_in, loss_by, loss_in, loss_of, loss_of_kind, places_in}
+use Rattle.rv_counts.specs.Places.{stall_for}
 use Rattle.rv_counts.specs.declared.run_places.Loss.{Loss}
 use Rattle.rv_counts.specs.declared.run_places.Loss.TheVariants as loss
 
@@ -54,15 +52,7 @@ by_test true first o why why' is rest = inr (ap Some (sym is))
 by_test false first o why why' is rest = rest
 
 reason_is : (h : Hardware) (f : Fetched) → IsReason (reason_of h f) (loss_of h.values h.rob f.instruction)
-reason_is h f =
-    let full : Bool = nat_le h.rob.capacity (length h.rob.entries) in
-    let queued : Bool = is_store f.instruction && nat_le h.values.store_queue (length (stores_after h h.rob.entries)) in
-    let kind : Option Kind = kind_of_word f.instruction in
-    let rest : Option Stall =
-    cond (has_full_stations h kind) (Some stall.Station) (cond queued (Some stall.Store) None) in
-    by_test (has_serialising h.rob) stall.Serial (cond full (Some stall.Rob) rest) loss.Serial
-    (cond full loss.Rob (loss_of_kind h.values h.rob kind)) refl
-    (by_test full stall.Rob rest loss.Rob (loss_of_kind h.values h.rob kind) refl (by_kind h queued kind))
+reason_is h f = grind arith
 
 -- what the oldest of some words waits for
 abbrev first_loss : Hardware → List Fetched → Loss

@@ -10,9 +10,8 @@ use Rattle.rv_hardware.specs.Hardware.{Hardware}
 use Rattle.rv_hardware.specs.History.{History, Moment, ended, cycled}
 use Rattle.rv_hardware.specs.Report.{Report}
 use Rattle.rv_hardware.specs.declared.step.Step.{Step}
-use Rattle.rv_counts.specs.Places.{AddUp, all_lost, all_places, all_squashed, cycle_places}
-use Rattle.rv_counts.specs.Places.{cycle_total, dispatched_in, places_by, places_from, places_in}
-use Rattle.rv_counts.specs.Places.{places_of, no_places, with_cycle, with_lost, with_squashed}
+use Rattle.rv_counts.specs.Places.{AddUp, all_lost, all_places, all_squashed, cycle_total, places_by, places_from}
+use Rattle.rv_counts.specs.Places.{places_in, places_of, no_places, with_cycle, with_lost, with_squashed}
 use Rattle.rv_counts.specs.declared.run_places.{CyclePlaces.CyclePlaces, Flush.Flush, Loss.Loss}
 use Rattle.rv_counts.specs.declared.run_places.{Lost.Lost, Places.Places, Squashed.Squashed}
 use Rattle.rv_counts.specs.declared.run_places.Flush.TheVariants as flush
@@ -89,10 +88,7 @@ module _ {old new : Hardware} {report : Report} (placed : ArePlaced old report n
   -- what is counted of a cycle that is shown are its places
   pub places_seen : places_by new.values cycle before steps new.rob new.front
       ≡ places_in old (record { report = report; after = new })
-  places_seen =
-      let dispatched : dispatched_in cycle new.rob ≡ report.dispatched = ap (λ n. dispatched_in n new.rob) number
-      ∙ placed.dispatched in
-      λ i. cycle_places new.values (number i) (in_flight i) (steps_are i) (dispatched i) new.rob new.front
+  places_seen = grind arith
 
   -- they are few
   pub few_seen : before ≤ 256 → cycle_total (places_by new.values cycle before steps new.rob new.front) ≤ 264

@@ -6,7 +6,7 @@ use Rattle.std.proofs.lemmas.List.Sums.{sum_by-append}
 use Rattle.rv_isa.specs.declared.lines.Lines.{Lines}
 use Rattle.rv_isa.specs.declared.operations.Kind.{Kind}
 use Rattle.rv_isa.specs.declared.values.Values.{Values}
-use Rattle.rv_rob.specs.Entry.{finished, predicting, started}
+use Rattle.rv_rob.specs.Entry.{started}
 use Rattle.rv_rob.specs.declared.entry.Entry.{Entry}
 use Rattle.rv_hardware.specs.Commit.{Committing}
 use Rattle.rv_hardware.specs.Cycle.{IsCycle, any_prediction, with_lines}
@@ -16,11 +16,10 @@ use Rattle.rv_arch.specs.Due.{due}
 use Rattle.rv_hardware.specs.Hardware.{Hardware}
 use Rattle.rv_hardware.specs.Repeated.{Turn}
 use Rattle.rv_hardware.specs.Report.{Report}
-use Rattle.rv_hardware.specs.Retirement.{row_of, written_of}
+use Rattle.rv_hardware.specs.Retirement.{row_of}
 use Rattle.rv_hardware.specs.Run.{Reachable}
 use Rattle.rv_hardware.specs.Step.{is_retirement, is_trap}
 use Rattle.rv_hardware.specs.declared.step.Step.{Step}
-use Rattle.rv_hardware.specs.declared.step.Step.TheVariants as step
 use Rattle.rv_hardware.proofs.Each.{Each-weaker}
 use Rattle.rv_hardware.proofs.Lists.{count-count_by, count-none}
 use Rattle.rv_hardware.proofs.Repeated.{Leaves, kept_by_turns}
@@ -28,8 +27,8 @@ use Rattle.rv_hardware.proofs.Laws.DispatchWidth.{dispatch_within}
 use Rattle.rv_hardware.proofs.Marks.History.{Anything, Passed, committing, dispatching, drained}
 use Rattle.rv_hardware.proofs.Marks.History.{history_passes, issued_all, reachable_has_history, sent_all}
 use Rattle.rv_hardware.proofs.Marks.Sound.{SoundEntry}
-use Rattle.rv_hardware.proofs.Turns.Commit.{CommitTurn, commit_turn_is, executes, fence_retires}
-use Rattle.rv_hardware.proofs.Turns.Commit.{head_retired_entries, retires, retires_last, serial_faults, traps}
+use Rattle.rv_hardware.proofs.Turns.Commit.{CommitTurn, commit_turn_is, executes, fence_retires, retires, retires_last}
+use Rattle.rv_hardware.proofs.Turns.Commit.{serial_faults, traps}
 use Rattle.rv_hardware.proofs.Turns.Dispatch.{DispatchTurn, dispatch_turn_is, dispatches}
 use Rattle.rv_hardware.proofs.Turns.KeptByBroadcast.{IsKeptByBroadcast, broadcast-keeps}
 use Rattle.rv_hardware.proofs.Turns.KeptByDrain.{IsKeptByDrain, drain-keeps}
@@ -73,51 +72,17 @@ module _ (all : ℕ) where
   AreTaken c = taken c.steps + length c.hardware.rob.entries ≤ all
 
   one_taken : (steps : List Step) (step : Step) → taken (step ∷ []) ≤ 1 → taken (steps ++ step ∷ []) ≤ taken steps + 1
-  one_taken steps step one =
-      omega (
-        arith,
-        one,
-        sum_by-append (λ s. cond (is_retirement s) 1 0) steps (step ∷ []),
-        sum_by-append
-            (λ s. cond (is_trap s) 1 0) steps (step ∷ []),
-      )
+  one_taken steps step one = grind (arith, sum_by-append)
 
   turn_takes : (c : Committing) (t : Turn Committing) → CommitTurn set.contains c t → AreTaken c → Leaves AreTaken t
   turn_takes c _ (fence_retires e es written next head is clean) few =
       omega (arith, few, ap length head.place, one_taken c.steps (row_of e written c.hardware.cycle) (omega arith))
   turn_takes c _ (executes e es written next head serial other) few =
       omega (arith, few, ap length head.place, one_taken c.steps (row_of e written c.hardware.cycle) (omega arith))
-  turn_takes c _ (serial_faults e es cause value head serial other) few =
-      omega (
-        arith,
-        few,
-        ap length head.place,
-        one_taken c.steps (step.Trap e.pc cause value c.hardware.cycle) (omega arith),
-      )
-  turn_takes c _ (traps e es issue cycle message fault head plain at is) few =
-      omega (
-        arith,
-        few,
-        ap length head.place,
-        one_taken c.steps (step.Trap e.pc fault.cause fault.value c.hardware.cycle) (omega arith),
-      )
-  turn_takes c _ (retires e es issue cycle message head plain at none) few =
-      omega (
-        arith,
-        few,
-        ap length head.place,
-        ap length
-            (head_retired_entries c.hardware.rob e es head.place),
-        one_taken c.steps
-            (row_of e (written_of e message) c.hardware.cycle) (omega arith),
-      )
-  turn_takes c _ (retires_last e es issue cycle message head plain at none) few =
-      omega (
-        arith,
-        few,
-        ap length head.place,
-        one_taken c.steps (row_of e (written_of e message) c.hardware.cycle) (omega arith),
-      )
+  turn_takes c _ (serial_faults e es cause value head serial other) few = grind (arith, one_taken)
+  turn_takes c _ (traps e es issue cycle message fault head plain at is) few = grind (arith, one_taken)
+  turn_takes c _ (retires e es issue cycle message head plain at none) few = grind (arith, one_taken)
+  turn_takes c _ (retires_last e es issue cycle message head plain at none) few = grind (arith, one_taken)
   turn_takes c _ _ few = few
 
   unless_takes : (code : Option ℕ) (h : Hardware) → length h.rob.entries ≤ all →
@@ -151,24 +116,7 @@ module _ (most : ℕ) where
   }
 
   few_at_broadcast : IsKeptByBroadcast AreFew
-  few_at_broadcast = record {
-    broadcasts = λ h older younger e message few split run.
-        omega (
-          arith,
-          few,
-          ap length split,
-          length-append older (e ∷ younger),
-          length-append older (finished message h.cycle e ∷ younger),
-        );
-    mends = λ h older younger e next few split.
-        omega (
-          arith,
-          few,
-          ap length split,
-          length-append older (e ∷ younger),
-          length-append older (predicting next e ∷ []),
-        );
-  }
+  few_at_broadcast = grind (arith, length-append)
 
   abbrev AreFewMore : Dispatching → Type 0
   AreFewMore d = length d.hardware.rob.entries ≤ most + d.dispatched

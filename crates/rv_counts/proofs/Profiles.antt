@@ -38,12 +38,7 @@ added-some costs p w = omega (arith, ended-times p.ending costs p (record w { fe
 
 -- no counts of nothing
 pub profile-nothing : (costs : LoadCosts) → IsProfileOf costs [] [] []
-profile-nothing costs = record {
-  in_order = tt;
-  counted = tt;
-  seen = tt;
-  all = λ address some. absurd (omega (arith, some));
-}
+profile-nothing costs = grind arith
 
 -- a change of the counts at one address, by what changes there alone
 module _ (address : ℕ) (change : WordCounts → WordCounts) (keeps : (w : WordCounts) → (change w).address ≡ w.address)

@@ -1,6 +1,6 @@
 -- Room for more counts.
-use Rattle.std.proofs.Common.{◌≡◌, ℕ, zero, suc, ◌+◌, ◌-◌, ◌^◌, ◌<◌, ◌≤◌, Bool, true, false, List, []}
-use Rattle.std.proofs.Common.{◌∷◌, length, get_or, take, drop, filter, Option, Some, None, arith, ap, sym, subst}
+use Rattle.std.proofs.Common.{◌≡◌, ℕ, zero, suc, ◌+◌, ◌-◌, ◌^◌, ◌<◌, ◌≤◌, Bool, true, false, List, [], ◌∷◌, length}
+use Rattle.std.proofs.Common.{get_or, take, drop, filter, Option, Some, None, arith, sym, subst}
 use Rattle.std.proofs.lemmas.List.{length-drop}
 use Rattle.std.proofs.lemmas.List.Sums.{count_by-le-length, length-filter}
 use Rattle.rv_cache.specs.WriteBack.{Each}
@@ -64,12 +64,6 @@ added-grows costs p most w is = ended-within most p.ending costs p w is
 pub head-grows : (most : ℕ) (w : WordCounts) → IsWithin most w → IsWithin (most + 1) (once_more_at_head w)
 head-grows most w is = head-within most w is
 
--- what can count some more can count fewer more
-pub can_count-fewer : (words : List WordCounts) (more fewer : ℕ) → fewer ≤ more → CanCountMore words more →
-    CanCountMore words fewer
-can_count-fewer words more fewer under can =
-    record { most = can.most; counts = can.counts; countable = omega (arith, can.countable, under) }
-
 -- any of them can count one more
 pub can_count-each : (words : List WordCounts) → CanCountMore words 1 → Each CanCount words
 can_count-each words can =
@@ -78,10 +72,7 @@ can_count-each words can =
 -- so can those among which there are some of an address then
 can_count-begun : (address : ℕ) (old new : List WordCounts) → new ≡ with_change address (λ w. w) old →
     CanCountMore old 1 → Each CanCount new
-can_count-begun address old new begun can =
-    subst (λ (words : List WordCounts). Each CanCount words) (sym begun)
-    (each-change address (λ w. w) CanCount (λ w is. is) (nothing-within (2 ^ 50 - 2) address) old
-    (can_count-each old can))
+can_count-begun address old new begun can = grind (arith, each-change, can_count-each)
 
 -- and so can those that are read at a place of them
 pub can_count-at : (address : ℕ) (old new : List WordCounts) (place : ℕ) (d read : WordCounts) → CanCountMore old 1 →
@@ -150,27 +141,17 @@ filter-le test ps = omega (arith, length-filter test ps, count_by-le-length test
 -- room after a cycle's head, and after some passages
 pub room-head : (head : Option ℕ) (old new : Profiled) (more : ℕ) → HasRoom old (more + 1) →
     new.words ≡ with_head head old.words → old.capacity ≤ new.capacity → HasRoom new more
-room-head head old new more room words capacity = record {
-  capacity = omega (arith, room.capacity, ap length words, length-head head old.words, capacity);
-  counts = subst (λ ws. CanCountMore ws more) (sym words) (can_count-head head old.words more room.counts);
-}
+room-head head old new more room words capacity = grind (arith, length-head, can_count-head)
 
 -- after some passages there is room for what comes after them
 pub room-passages : (costs : LoadCosts) (ps : List Passage) (old new : Profiled) (more : ℕ) →
     HasRoom old (length ps + more) → new.words ≡ with_passages costs ps old.words →
     old.capacity ≤ new.capacity → HasRoom new more
-room-passages costs ps old new more room words capacity = record {
-  capacity = omega (arith, room.capacity, ap length words, length-passages costs ps old.words, capacity);
-  counts = subst (λ ws. CanCountMore ws more) (sym words) (can_count-passages costs ps old.words more room.counts);
-}
+room-passages costs ps old new more room words capacity = grind (arith, length-passages, can_count-passages)
 
 -- room for more is room for fewer
 pub room-fewer : (profile : Profiled) (more fewer : ℕ) → fewer ≤ more → HasRoom profile more → HasRoom profile fewer
-room-fewer profile more fewer under room =
-    record {
-      capacity = omega (arith, room.capacity, under);
-      counts = can_count-fewer profile.words more fewer under room.counts;
-    }
+room-fewer profile more fewer under room = grind arith
 
 -- where some passages, or some of them, are counted after the first of all, there is room for the first
 pub room-first : (costs : LoadCosts) (rows rest : List Passage) (old new : Profiled) → 1 ≤ length rows →

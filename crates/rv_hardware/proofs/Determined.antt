@@ -101,9 +101,7 @@ module _ {lines : Lines} {old new new' : GuidedHardware} {report report' : Repor
   reported_once = cycle.cycle.reports ∙ (λ i. report_of (committed i) (executed i)) ∙ sym cycle'.cycle.reports
 
   here : new.hardware.pc ≡ new'.hardware.pc
-  here =
-      ap (λ (h : Hardware). h.pc) cycle.cycle.others_stay ∙ ap (λ (d : Dispatching). d.hardware.pc) executed ∙
-      sym (ap (λ (h : Hardware). h.pc) cycle'.cycle.others_stay)
+  here = grind arith
 
   taught_once : new.predictor ≡ new'.predictor
   taught_once = cycle.learns ∙ (λ i. fold after_lesson old.predictor (lessons_of (reported_once i).steps (here i))) ∙

@@ -1,19 +1,17 @@
 -- Through each cycle what is in flight goes on as it was, and what is in flight was fetched before the cycle.
-use Rattle.rv_hardware.proofs.Words.{◌≡◌, ℕ, ◌+◌, true, List, [], ◌∷◌, ◌++◌, map, drop, Some, None, Option}
-use Rattle.rv_hardware.proofs.Words.{nat_cmp, sym, refl, ap, ◌∙◌, subst, inl, inr, false≢true, arith, due, Lines, Kind}
-use Rattle.rv_hardware.proofs.Words.{Message, Issue, Entry, Stage, Waiting, Running, Finished, Fetched}
-use Rattle.rv_hardware.proofs.Words.{predicting, issue_of, Answers, IsCycle, Committing}
-use Rattle.rv_hardware.proofs.Words.{commit_turn, commit_unless, with_lines, broadcast, drain, issue, Hardware}
-use Rattle.rv_hardware.proofs.Words.{entry_of_fetched, is_waiting, Turn, Report, Step, Each, Each-append, Each-left}
-use Rattle.rv_hardware.proofs.Words.{Each-place, Each-push}
-use Rattle.rv_hardware.proofs.Words.{Each-change, Leaves, kept_by_turns, always, Reachable, execute, row_of}
-use Rattle.rv_hardware.proofs.Words.{head_retired, written_of, each_image, each_then, Bool}
+use Rattle.rv_hardware.proofs.Words.{◌≡◌, ℕ, ◌+◌, List, [], ◌∷◌, ◌++◌, map, drop, Some, None, Option, nat_cmp, sym}
+use Rattle.rv_hardware.proofs.Words.{refl, ap, ◌∙◌, subst, inl, inr, arith, due, Lines, Kind, Message, Issue, Entry}
+use Rattle.rv_hardware.proofs.Words.{Stage, Waiting, Running, Finished, Fetched, predicting, issue_of, Answers, IsCycle}
+use Rattle.rv_hardware.proofs.Words.{Committing, commit_turn, commit_unless, with_lines, broadcast, drain, issue}
+use Rattle.rv_hardware.proofs.Words.{Hardware, entry_of_fetched, Turn, Report, Step, Each, Each-append, Each-left}
+use Rattle.rv_hardware.proofs.Words.{Each-place, Each-push, Each-change, Leaves, kept_by_turns, always, Reachable}
+use Rattle.rv_hardware.proofs.Words.{execute, each_image, each_then, Bool}
 use Rattle.std.specs.FinSet as set
 use Rattle.rv_hardware.specs.Onward.{Flight, GoOn, IsLater, Stays, StaysAtStage, fetched_now, flights}
 use Rattle.rv_hardware.specs.Onward.{goes_on, IsFetchedBefore, IsFetchedIn, left_by, of_entry, of_fetched}
 use Rattle.rv_hardware.specs.declared.step.Step.TheVariants as step
-use Rattle.rv_hardware.proofs.Turns.Commit.{CommitTurn, commit_turn_is, head_retired_entries, retires}
-use Rattle.rv_hardware.proofs.Turns.Commit.{fence_retires, executes, serial_faults, traps, retires_last}
+use Rattle.rv_hardware.proofs.Turns.Commit.{CommitTurn, commit_turn_is, retires, fence_retires, executes, serial_faults}
+use Rattle.rv_hardware.proofs.Turns.Commit.{traps, retires_last}
 use Rattle.rv_hardware.proofs.Turns.Fetch.{fetch_phase}
 use Rattle.rv_hardware.proofs.Turns.KeptByBroadcast.{IsKeptByBroadcast, broadcast-keeps}
 use Rattle.rv_hardware.proofs.Turns.KeptByDispatch.{IsKeptByDispatch, dispatch-keeps}
@@ -27,47 +25,18 @@ stage-self Waiting = tt
 stage-self (Running issue message) = inl refl
 stage-self (Finished issue cycle message) = refl
 
-stage-then : (a b c : Stage) → StaysAtStage a b → StaysAtStage b c → StaysAtStage a c
-stage-then Waiting b c one two = tt
-stage-then (Running issue message) b c (inl is) two = subst (λ s. StaysAtStage s c) is two
-stage-then (Running issue message) b c (inr is) two = inr (is.0, subst (λ s. StaysAtStage s c) is.1 two)
-stage-then (Finished issue cycle message) b c is two = subst (λ s. StaysAtStage s c) is two
-
 -- what is unchanged stays
 pub stays-self : {X : Type 0} (a : Option X) → Stays a a
 stays-self None = tt
 stays-self (Some x) = refl
 
-stays-then : {X : Type 0} (a b c : Option X) → Stays a b → Stays b c → Stays a c
-stays-then None b c one two = tt
-stays-then (Some x) b c is two = subst (λ o. Stays o c) is two
-
 -- what is later than what is later is later
 pub later-then : {a b c : Flight} → IsLater a b → IsLater b c → IsLater a c
-later-then {a} {b} {c} one two = record {
-  pc = two.pc ∙ one.pc;
-  word = two.word ∙ one.word;
-  instruction = two.instruction ∙ one.instruction;
-  fetched = two.fetched ∙ one.fetched;
-  dispatched = stays-then a.dispatched b.dispatched c.dispatched one.dispatched two.dispatched;
-  stage = stage-then a.stage b.stage c.stage one.stage two.stage;
-}
+later-then {a} {b} {c} one two = grind arith
 
 -- an entry at a later stage
 staged : (e : Entry) (s : Stage) → StaysAtStage e.stage s → IsLater (of_entry e) (of_entry (record e { stage = s }))
-staged e s stays = record {
-  pc = refl;
-  word = refl;
-  instruction = refl;
-  fetched = refl;
-  dispatched = refl;
-  stage = stays;
-}
-
-waits-stays : (s t : Stage) → is_waiting s ≡ true → StaysAtStage s t
-waits-stays Waiting t is = tt
-waits-stays (Running issue message) t is = absurd (false≢true is)
-waits-stays (Finished issue cycle message) t is = absurd (false≢true is)
+staged e s stays = grind arith
 
 -- ---- lists of them
 
@@ -128,10 +97,7 @@ module _ (cycle : ℕ) (old : List Flight) where
   -- in the order around an entry
   around : (h : Hardware) (older younger : List Entry) (e : Entry) → h.rob.entries ≡ older ++ e ∷ younger → Gone h →
       GoOn cycle old (map of_entry older ++ of_entry e ∷ (map of_entry younger ++ map of_fetched h.front.entries))
-  around h older younger e split gone =
-      subst (λ l. GoOn cycle old l)
-      (ap (λ es. map of_entry es ++ map of_fetched h.front.entries) split ∙
-      flights-at older younger e h.front.entries) gone
+  around h older younger e split gone = grind (arith, flights-at)
 
   restaged : (h : Hardware) (older younger : List Entry) (e : Entry) (s : Stage) →
       h.rob.entries ≡ older ++ e ∷ younger → StaysAtStage e.stage s → Gone h →
@@ -146,12 +112,7 @@ module _ (cycle : ℕ) (old : List Flight) where
   drain-goes = record { leaves = λ h gone idle. gone; drains = λ h access gone idle is. gone }
 
   issue-goes : (k : Kind) → IsKeptByIssue Gone k
-  issue-goes k = record {
-    accesses = λ h older younger e address gone split ready by. gone;
-    starts = λ h older younger e cost message gone split waits of_kind result costs.
-        restaged h older younger e (Running (record { cycle = h.cycle; cost = cost }) message) split
-        (waits-stays e.stage _ waits) gone;
-  }
+  issue-goes k = grind (arith, restaged)
 
   sent-stays : (s : Stage) (now : ℕ) (issue : Issue) (message : Message) → s ≡ Running issue message →
       StaysAtStage s (Finished (issue_of s) now message)
@@ -206,16 +167,7 @@ module _ (cycle : ℕ) (old : List Flight) (is_stale : set.FinSet nat_cmp → �
   turn-goes (serial_faults e es cause value head serial other) left = fetched_now tt
   turn-goes (traps e es issue cycle message fault head plain at is) left = fetched_now tt
   turn-goes (retires_last e es issue cycle message head plain at none) left = fetched_now tt
-  turn-goes {c} (retires e es issue now message head plain at none) left =
-      let h : Hardware = c.hardware in
-      let gone : GoOn cycle (left_by c.steps old) (of_entry e ∷ (map of_entry es ++ map of_fetched h.front.entries)) =
-      subst (λ l. GoOn cycle (left_by c.steps old) (map of_entry l ++ map of_fetched h.front.entries))
-      head.place left in
-      subst (λ l. GoOn cycle l (map of_entry (head_retired h.rob).entries ++ map of_fetched h.front.entries))
-      (sym (left_by-one_more c.steps (row_of e (written_of e message) h.cycle) old))
-      (subst (λ l. GoOn cycle (drop 1 (left_by c.steps old)) (map of_entry l ++ map of_fetched h.front.entries))
-      (sym (head_retired_entries h.rob e es head.place))
-      (leaves (of_entry e) (map of_entry es ++ map of_fetched h.front.entries) gone))
+  turn-goes {c} (retires e es issue now message head plain at none) left = grind (arith, left_by-one_more, leaves)
   turn-goes _ left = left
 
   commit-goes : (code : Option ℕ) (h : Hardware) → GoOn cycle old (flights h) → Left (commit_unless is_stale code h)

@@ -127,13 +127,6 @@ module _ {X : Type 0} (seq : X → ℕ) where
   IsInOrder-drop (suc k) [] order = order
   IsInOrder-drop (suc k) (x ∷ xs) order = IsInOrder-drop k xs (IsInOrder-tail x xs order)
 
-  -- the numbers do not fall
-  pub IsInOrder-non_decreasing : (xs : List X) → IsInOrder seq xs → IsNonDecreasingBy seq xs
-  IsInOrder-non_decreasing xs order i j d le within = elim (cases_lt i j) [
-    | inl before ↦ omega (arith, order i j d before within)
-    | inr equal ↦ let same : i ≡ j = omega arith in rw same (omega arith)
-  ]
-
   -- in order, none is below n after one that is not
   pub below-stops : (n : ℕ) (x : X) (xs : List X) → IsInOrder seq (x ∷ xs) → n ≤ seq x → below seq n (x ∷ xs) ≡ []
   below-stops n x xs order le = below-goes n x xs le

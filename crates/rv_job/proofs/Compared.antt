@@ -8,11 +8,7 @@ use Rattle.rv_describe.specs.Description.{description_of}
 use Rattle.rv_job.specs.Comparison.{AreLoaded, Compares, IsAfter, IsLoaded}
 use Rattle.rv_job.specs.Comparison.{RefusesDescribed, RefusesLoading, RefusesProgram}
 use Rattle.rv_job.specs.Parts.{halves_of}
-use Rattle.rv_job.specs.JobText.{RefusesAssembly}
 use Rattle.rv_job.specs.declared.errors.SimError.{SimError}
-use Rattle.rv_job.specs.declared.errors.SimError.TheVariants.{TooLong, TooManyDescriptions, Description}
-use Rattle.rv_job.specs.declared.errors.SimError.TheVariants.{Described, Arrivals, Assembly, ImageDoesNotFit}
-use Rattle.rv_job.specs.declared.errors.SimError.TheVariants.{DoesNotFit, Memory, WriteFailed}
 use Rattle.rv_job.specs.declared.job.Job.{Job}
 
 -- after no description stands the whole text
@@ -62,17 +58,3 @@ module _ (program : List ℕ) (machines : List Values) (place : ℕ) (below : pl
 pub renumbered : (number other : ℕ) (part : List ℕ) (error : SimError) → number ≡ other →
     RefusesDescribed (number + 1) part error → RefusesDescribed (other + 1) part error
 renumbered number other part error is refused = subst (λ n. RefusesDescribed (n + 1) part error) is refused
-
--- a program that is refused by itself is refused on each machine
-pub refused_alone : (number : ℕ) (program : List ℕ) (machine : Values) (error : SimError) →
-    RefusesAssembly machine.ram_base program error → RefusesProgram number program machine error
-refused_alone number program machine (DoesNotFit place) refused = absurd refused
-refused_alone number program machine TooLong refused = refused
-refused_alone number program machine TooManyDescriptions refused = refused
-refused_alone number program machine (Description error) refused = refused
-refused_alone number program machine (Described place error) refused = refused
-refused_alone number program machine (Arrivals error) refused = refused
-refused_alone number program machine (Assembly error) refused = refused
-refused_alone number program machine (ImageDoesNotFit bytes ram) refused = refused
-refused_alone number program machine Memory refused = refused
-refused_alone number program machine WriteFailed refused = refused

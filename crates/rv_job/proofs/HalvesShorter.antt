@@ -1,12 +1,10 @@
 -- What stands after a separator is shorter than the text.
-use Rattle.std.proofs.Common.{◌≡◌, ℕ, suc, ◌+◌, ◌<◌, List, [], ◌∷◌, length, Option}
-use Rattle.std.proofs.Common.{Some, None, Bool, true, false, subst, option_map, arith}
+use Rattle.std.proofs.Common.{◌≡◌, ℕ, suc, ◌<◌, List, [], ◌∷◌, length, Option, Some, None, Bool, true, false, subst}
+use Rattle.std.proofs.Common.{option_map, arith}
 use Rattle.std.specs.Prelude.{if◌then◌else◌, IfSome}
-use Rattle.std.specs.List.{after_first, before_first, position_or_len}
 use Rattle.std.specs.Option.{option_or}
 use Rattle.std.proofs.lemmas.List.{length-drop}
-use Rattle.rv_job.specs.Parts.{Halves, after_separator, halves_at_front, halves_of}
-use Rattle.rv_job.specs.Parts.{is_line_feed, is_separator, later_halves, preceded}
+use Rattle.rv_job.specs.Parts.{Halves, after_separator, halves_at_front, halves_of, later_halves, preceded}
 
 abbrev IsShorter : ℕ → Option Halves → Type 0
 IsShorter bound found = IfSome found (λ halves. length halves.after < bound)
@@ -29,28 +27,12 @@ where_tested false bound found shorter = tt
 at_front : (text : List ℕ) → IsShorter (length text) (halves_at_front text)
 unfolding after_separator
 at_front [] = tt
-at_front (byte ∷ later) = go (is_separator (before_first is_line_feed (byte ∷ later)))
-  where
-    text : List ℕ
-    text = byte ∷ later
-
-    place : ℕ
-    place = position_or_len is_line_feed text
-
-    go : (test : Bool) →
-        IsShorter (length text)
-        (option_map (λ after. record { before = []; after = after })
-        (if test then Some (after_first is_line_feed text) else None))
-    go true = omega (arith, length-drop (place + 1) text)
-    go false = tt
+at_front (byte ∷ later) = grind (arith, length-drop)
 
 later_shorter : (text : List ℕ) → IsShorter (length text) (later_halves text)
 unfolding later_halves
 later_shorter [] = tt
-later_shorter (byte ∷ later) =
-    after_byte byte (length later) _
-    (either (length later) _ _ (where_tested (is_line_feed byte) (length later) _ (at_front later))
-    (later_shorter later))
+later_shorter (byte ∷ later) = grind (arith, after_byte, either, where_tested, at_front, later_shorter later)
 
 shorter : (text : List ℕ) → IsShorter (length text) (halves_of text)
 unfolding halves_of

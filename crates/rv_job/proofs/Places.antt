@@ -1,6 +1,6 @@
 -- The first separator of a text, looked for place by place.
-use Rattle.std.proofs.Common.{◌≡◌, ℕ, ◌+◌, ◌<◌, List, [], ◌∷◌, ◌++◌, length, get_or, take, drop, Option, Some}
-use Rattle.std.proofs.Common.{None, refl, sym, ap, ◌∙◌, append_assoc, add-one, option_map, Bool, true, false}
+use Rattle.std.proofs.Common.{◌≡◌, ℕ, ◌+◌, ◌<◌, List, [], ◌∷◌, ◌++◌, length, get_or, take, drop, Option, Some, None}
+use Rattle.std.proofs.Common.{refl, sym, ap, ◌∙◌, append_assoc, add-one, option_map, Bool, true, false, arith}
 use Rattle.std.specs.Prelude.{if◌then◌else◌}
 use Rattle.std.proofs.Math.Seq.{drop-cons}
 use Rattle.std.proofs.lemmas.List.{take_more}
@@ -10,9 +10,7 @@ preceded_twice : (before : List ℕ) (byte : ℕ) (found : Option Halves)
     → option_map (preceded before) (option_map (preceded (byte ∷ [])) found)
     ≡ option_map (preceded (before ++ byte ∷ [])) found
 preceded_twice before byte None = refl
-preceded_twice before byte (Some halves) =
-    ap (λ bytes. Some (record { before = bytes; after = halves.after }))
-    (sym (append_assoc before (byte ∷ []) halves.before))
+preceded_twice before byte (Some halves) = grind (arith, append_assoc)
 
 -- no separator stands right after a byte
 no_separator : (byte : ℕ) (later : List ℕ) → (if is_line_feed byte then halves_at_front later else None) ≡ None

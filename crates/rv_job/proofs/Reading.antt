@@ -1,15 +1,10 @@
 -- What was read of known bytes.
-use Rattle.std.proofs.Common.{◌≡◌, ℕ, ◌≤◌, List, [], ◌++◌, length, take, Option, Some}
-use Rattle.std.proofs.Common.{None, sym, refl, ap, ◌∙◌, append_assoc, append-nil}
+use Rattle.std.proofs.Common.{◌≡◌, ℕ, ◌≤◌, List, [], ◌++◌, length, take, Option, Some, None, sym, refl, ap, ◌∙◌}
+use Rattle.std.proofs.Common.{append_assoc, append-nil, arith}
 use Rattle.std.specs.Prelude.{IfSome}
 use Rattle.std.specs.Io.KnownBytes.{Consumes, IsAtEnd}
 use Rattle.std.proofs.Math.Seq.{take-append_seam}
 use Rattle.std.proofs.lemmas.List.{take_all}
-
--- where the known bytes stay as they are, none was read
-pub Consumes-nothing : (known : Option (List ℕ)) → Consumes known known []
-Consumes-nothing None = tt
-Consumes-nothing (Some bytes) = refl
 
 -- bytes that are read one after the other are read together
 pub Consumes-both : (a b c : Option (List ℕ)) (xs ys : List ℕ) → Consumes a b xs → Consumes b c ys →
@@ -29,9 +24,7 @@ pub taken_to_end : (most : ℕ) (old new : Option (List ℕ)) (read : List ℕ) 
     length read ≤ most → IfSome old (λ bytes. read ≡ take most bytes)
 taken_to_end most None new read consumed at_end few = tt
 taken_to_end most (Some bytes) None read consumed at_end few = absurd consumed
-taken_to_end most (Some bytes) (Some rest) read consumed at_end few =
-    let all : bytes ≡ read = consumed ∙ ap (λ r. read ++ r) at_end ∙ append-nil read in
-    sym (ap (take most) all ∙ take_all most read few)
+taken_to_end most (Some bytes) (Some rest) read consumed at_end few = grind (arith, append-nil, take_all)
 
 -- as much was read as may be
 pub taken_most : (most : ℕ) (old new : Option (List ℕ)) (read : List ℕ) → Consumes old new read → length read ≡ most →

@@ -49,15 +49,7 @@ by_first_line text =
 
 after_first_line : (text : List ℕ) → later_count text ≡ separator_count (after_first is_line_feed text)
 after_first_line [] = refl
-after_first_line (byte ∷ later) = go (after_first_line later) (is_line_feed byte) refl
-  where
-    go : later_count later ≡ separator_count (after_first is_line_feed later) → (test : Bool) → is_line_feed byte ≡ test
-        → later_count (byte ∷ later) ≡ separator_count (after_first is_line_feed (byte ∷ later))
-    go so_far true is = rw is refl
-    go so_far false is =
-        let place : 1 + position_or_len is_line_feed later + 1 ≡ suc (position_or_len is_line_feed later + 1) =
-        omega arith in
-        rw (is, so_far, place) refl
+after_first_line (byte ∷ later) = grind (arith, after_first_line later)
 
 of_preceded : (bytes : List ℕ) (found : Option Halves) →
     count_from (option_map (preceded bytes) found) ≡ count_from found
@@ -67,24 +59,12 @@ of_preceded bytes (Some halves) = refl
 either_count : (text : List ℕ) → later_count text ≡ count_from (later_halves text)
     → separator_count text ≡ count_from (option_or (halves_at_front text) (later_halves text))
 unfolding after_separator
-either_count text after = by_first_line text ∙ go (is_separator (before_first is_line_feed text)) refl
-  where
-    go : (test : Bool) → is_separator (before_first is_line_feed text) ≡ test
-        → (if is_separator (before_first is_line_feed text) then 1 else 0) + later_count text
-        ≡ count_from (option_or (halves_at_front text) (later_halves text))
-    go true is = rw (is, after_first_line text) refl
-    go false is = rw (is, after) (omega arith)
+either_count text after = grind (arith, by_first_line, after_first_line)
 
 later_counted : (text : List ℕ) → later_count text ≡ count_from (later_halves text)
 unfolding later_halves
 later_counted [] = refl
-later_counted (byte ∷ later) = go (later_counted later) (is_line_feed byte) refl ∙ sym (of_preceded (byte ∷ []) _)
-  where
-    go : later_count later ≡ count_from (later_halves later) → (test : Bool) → is_line_feed byte ≡ test
-        → later_count (byte ∷ later)
-        ≡ count_from (option_or (if is_line_feed byte then halves_at_front later else None) (later_halves later))
-    go so_far true is = rw is (either_count later so_far)
-    go so_far false is = rw is so_far
+later_counted (byte ∷ later) = grind (arith, of_preceded, either_count, later_counted later)
 
 -- the count of a text is that of its halves
 pub counted : (text : List ℕ) → separator_count text ≡ count_from (halves_of text)
@@ -132,7 +112,4 @@ as_many (AreLoaded.another {machines = machines} {jobs = jobs} {machine = machin
 -- where separators are no more than the most machines that are compared, neither are the jobs
 pub jobs_few : {text program : List ℕ} {machines : List Values} {jobs : List Job} → Compares text machines program
     → AreLoaded program machines jobs → separator_count text ≤ most_machines → length jobs ≤ most_machines
-jobs_few compares loaded few =
-    let machines = machines_few compares few in
-    let same = as_many loaded in
-    omega (arith, machines, same)
+jobs_few compares loaded few = grind (arith, machines_few, as_many)

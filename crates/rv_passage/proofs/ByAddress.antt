@@ -7,13 +7,9 @@ use Rattle.std.specs.Ordering.{nat_cmp, ordering_index}
 use Rattle.std.proofs.lemmas.Cmp.{ranked}
 use Rattle.std.proofs.lemmas.List.{set-get_or}
 use Rattle.std.proofs.lemmas.List.Edits.{get_or-insert_at}
-use Rattle.std.proofs.lemmas.Bool.{eqb-true, eqb-false, ltb-true, ltb-false}
+use Rattle.std.proofs.lemmas.Bool.{eqb-true, ltb-true}
 use Rattle.std.proofs.lemmas.Bool.Decides.{nat_tests}
 use Rattle.rv_passage.specs.ByAddress.{AreAbove, IsInOrder, IsPlaceFor, IsPlaceOf, with_change}
-
--- no more than another number and not it
-below_other : (m n : ℕ) → m ≤ n → (m ≡ n → ⊥) → m < n
-below_other m n within other = grind arith
 
 -- what was put in at a place may be changed there
 set-insert : {X : Type 0} (xs : List X) (i : ℕ) (x y : X) → i ≤ length xs → set (insert xs i x) i y ≡ insert xs i y
@@ -90,9 +86,7 @@ module _ {X : Type 0} (address_of : X → ℕ) (nothing_at : ℕ → X) (address
         (address < address_of x → P (change (nothing_at address) ∷ x ∷ xs)) →
         (address_of x < address → P (x ∷ changed xs)) → P (changed (x ∷ xs))
     by_order true other is new later = rw (other, is) (new (ltb-true address (address_of x) is))
-    by_order false other is new later =
-        let not_above = ltb-false address (address_of x) is in
-        rw (other, is) (later (below_other (address_of x) address not_above (eqb-false (address_of x) address other)))
+    by_order false other is new later = grind arith
 
     by_test : (same : Bool) → (address_of x == address) ≡ same → (address_of x ≡ address → P (change x ∷ xs)) →
         (address < address_of x → P (change (nothing_at address) ∷ x ∷ xs)) →

@@ -1,11 +1,9 @@
 -- Rows after those that are dropped, and those that are still in flight among them.
 use Rattle.std.proofs.Common.{◌≡◌, ◌∙◌, ℕ, suc, ◌+◌, ◌-◌, ◌≤◌, true, false, List, [], ◌∷◌, ◌++◌, length, filter, map}
-use Rattle.std.proofs.Common.{take, drop, None, refl, ap, sym, arith, inl, inr, length-drop}
+use Rattle.std.proofs.Common.{drop, None, refl, ap, sym, arith, inl, inr}
 use Rattle.std.specs.List.{list_all, position, position_or_len}
-use Rattle.std.proofs.Math.Seq.{drop-append_seam, paste}
+use Rattle.std.proofs.Math.Seq.{drop-append_seam}
 use Rattle.std.proofs.lemmas.Bool.{cases_Bool}
-use Rattle.std.proofs.lemmas.List.{take_all}
-use Rattle.std.proofs.lemmas.List.Edits.{take-paste}
 use Rattle.rv_front.specs.FetchBuffer.{FetchBuffer}
 use Rattle.rv_front.specs.declared.fetched.Fetched.{Fetched}
 use Rattle.rv_rob.specs.ReorderBuffer.{ReorderBuffer}
@@ -17,15 +15,6 @@ use Rattle.rv_passage.specs.declared.passage.Passage.{Passage}
 -- what comes after so many
 pub drop-joined : {X : Type 0} (n : ℕ) (front back : List X) → length front ≡ n → drop n (front ++ back) ≡ back
 drop-joined n front back is = ap (λ k. drop k (front ++ back)) (sym is) ∙ drop-append_seam front back
-
--- what comes after so many, moved over them
-pub moved_to_front : {X : Type 0} (xs : List X) (n : ℕ) → n ≤ length xs →
-    take (length xs - n) (paste xs 0 (drop n xs) (length xs - n)) ≡ drop n xs
-moved_to_front xs n within =
-    let left : length xs - n ≡ 0 + (length xs - n) = omega arith in
-    ap (λ k. take k (paste xs 0 (drop n xs) (length xs - n))) left
-    ∙ take-paste xs 0 (drop n xs) (length xs - n) (omega arith) (omega (arith, length-drop n xs))
-    ∙ take_all (length xs - n) (drop n xs) (omega (arith, length-drop n xs))
 
 -- those in flight are none of the first ones that ended
 pub open-after_first : (rows : List Passage) → filter is_in_flight (drop (position_or_len is_in_flight rows) rows)
@@ -84,13 +73,7 @@ all-open (p ∷ ps) as_many = elim (cases_Bool (is_in_flight p)) [
 pub open-with_oldest : (change : Passage → Passage) (rows : List Passage) →
     length (filter is_in_flight rows) ≤ length (filter is_in_flight (with_oldest change rows)) + 1
 open-with_oldest change [] = omega arith
-open-with_oldest change (p ∷ ps) = elim (cases_Bool (is_in_flight p)) [
-  | inl flies ↦ elim (cases_Bool (is_in_flight (change p))) [
-    | inl still ↦ rw (flies, still) (omega arith)
-    | inr ended ↦ rw (flies, ended) (omega arith)
-  ]
-  | inr ended ↦ rw ended (rw ended (open-with_oldest change ps))
-]
+open-with_oldest change (p ∷ ps) = grind (arith, open-with_oldest change ps)
 
 -- so of the rows after the dropped ones, of which so many were in flight, all but one still are
 pub known-with_oldest : (change : Passage → Passage) (n known left : ℕ) (old read now new : List Passage) → new ≡ now →

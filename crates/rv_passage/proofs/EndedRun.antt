@@ -1,6 +1,6 @@
 -- A run that ended by its limit and went on, and one that ended before it.
-use Rattle.std.proofs.Common.{◌≡◌, ◌∙◌, ℕ, ◌+◌, ◌≤◌, ◌≢◌, List, [], ◌∷◌, ◌++◌, length, refl, ap, sym, subst, arith}
-use Rattle.std.proofs.Common.{append_assoc, length-append}
+use Rattle.std.proofs.Common.{◌≡◌, ℕ, ◌+◌, ◌≤◌, ◌≢◌, List, [], ◌∷◌, ◌++◌, length, refl, ap, arith, append_assoc}
+use Rattle.std.proofs.Common.{length-append}
 use Rattle.rv_isa.specs.declared.lines.Arrival.{Arrival}
 use Rattle.rv_arch.specs.declared.outcome.Stop.{Stop}
 use Rattle.rv_arch.specs.declared.outcome.Stop.TheVariants as stop
@@ -48,13 +48,7 @@ NoneStops-append (report ∷ some) more none others = (none.0, NoneStops-append 
 
 ends_after : {reason : Stop} (some more : List Report) → NoneStops some → EndsWith reason more →
     EndsWith reason (some ++ more)
-ends_after some more none ends = record {
-  earlier = some ++ ends.earlier;
-  last = ends.last;
-  all = ap (λ reports. some ++ reports) ends.all ∙ sym (append_assoc some ends.earlier (ends.last ∷ []));
-  none_before = NoneStops-append some ends.earlier none ends.none_before;
-  stops = ends.stops;
-}
+ends_after some more none ends = grind (arith, append_assoc, NoneStops-append)
 
 stops_after : (from limit : ℕ) (some more : List Report) (new : Hardware) (reason : Stop) → NoneStops some →
     length some ≡ from → IsStop limit more new reason → IsStop (from + limit) (some ++ more) new reason
@@ -72,27 +66,14 @@ pub run_on : {arrivals : List Arrival} {from limit : ℕ} {old middle new : Guid
     Moment} {reason : Stop} → IsEndedRun arrivals from old some middle stop.Limit
     → IsEndedRun arrivals limit middle more new reason →
     IsEndedRun arrivals (from + limit) old (some ++ more) new reason
-run_on {from = from} {limit = limit} {new = new} {some = some} {more = more} {reason = reason} run after = record {
-  passes = History-append run.passes after.passes;
-  stops = subst (λ reports. IsStop (from + limit) reports new.hardware reason) (sym (reports_of-append some more))
-      (stops_after from limit (reports_of some) (reports_of more) new.hardware reason run.stops.0
-      run.stops.1 after.stops);
-}
-
-stops_earlier : (limit more : ℕ) (reports : List Report) (new : Hardware) (reason : Stop) → reason ≢ stop.Limit →
-    IsStop limit reports new reason → IsStop (limit + more) reports new reason
-stops_earlier limit more reports new reason other stops = grind arith
+run_on {from = from} {limit = limit} {new = new} {some = some} {more = more} {reason = reason} run after =
+    grind (arith, History-append, reports_of-append, stops_after)
 
 -- a run that ended before its limit is one with a greater limit
 pub run_earlier : {arrivals : List Arrival} {limit : ℕ} {old new : GuidedHardware} {moments : List
     Moment} {reason : Stop} (more : ℕ) → reason ≢ stop.Limit → IsEndedRun arrivals limit old moments new reason
     → IsEndedRun arrivals (limit + more) old moments new reason
-run_earlier {limit = limit} {new = new} {moments = moments} {reason = reason} more other run =
-    record {
-      passes = run.passes;
-      stops = stops_earlier limit more (reports_of moments) new.hardware
-          reason other run.stops;
-    }
+run_earlier {limit = limit} {new = new} {moments = moments} {reason = reason} more other run = grind arith
 
 -- a run has no more cycles than its limit
 pub length-run : (limit : ℕ) (reports : List Report) (new : Hardware) (reason : Stop) →

@@ -1,9 +1,8 @@
 -- The instructions up to the youngest that left the hardware, from the youngest of all on.
-use Rattle.std.proofs.Common.{◌≡◌, ◌∙◌, ℕ, zero, suc, ◌-◌, ◌<◌, ◌≤◌, true, false, List, [], ◌∷◌, ◌++◌, length, take}
-use Rattle.std.proofs.Common.{get_or, Some, MatchOption, refl, sym, ap, subst, arith, append_assoc, append-nil}
+use Rattle.std.proofs.Common.{◌≡◌, ◌∙◌, ℕ, ◌-◌, ◌<◌, ◌≤◌, false, List, [], ◌∷◌, ◌++◌, length, take, get_or, Some}
+use Rattle.std.proofs.Common.{MatchOption, refl, sym, ap, subst, arith, append-nil}
 use Rattle.std.specs.List.{AllPass, slice_get}
 use Rattle.std.proofs.lemmas.List.{length_push, take_all, take_more}
-use Rattle.std.proofs.lemmas.List.Elements.{All-append}
 use Rattle.rv_passage.specs.Left.{IsUpToYoungestLeft}
 use Rattle.rv_passage.specs.Passage.{is_in_flight}
 use Rattle.rv_passage.specs.declared.passage.Passage.{Passage}
@@ -13,10 +12,6 @@ pub record AreInFlightAfter (rows left : List Passage) : Type 0 where
   pub others : List Passage
   pub rows_are : rows ≡ left ++ others
   pub in_flight : AllPass is_in_flight others
-
-one_in_flight : (p : Passage) → is_in_flight p ≡ true → AllPass is_in_flight (p ∷ [])
-one_in_flight p flies zero d within = flies
-one_in_flight p flies (suc k) d within = absurd (omega (arith, within))
 
 last_of : (before : List Passage) (p : Passage) → slice_get (before ++ p ∷ []) (length before) ≡ Some p
 last_of [] p = refl
@@ -34,14 +29,6 @@ none_left rows left none after = grind arith
 
 module _ (rows left before : List Passage) (p : Passage) (last : left ≡ before ++ p ∷ [])
     (after : AreInFlightAfter rows left) where
-  -- the last one is in flight
-  one_more_after : is_in_flight p ≡ true → AreInFlightAfter rows before
-  one_more_after flies = record {
-    others = p ∷ after.others;
-    rows_are = after.rows_are ∙ ap (λ l. l ++ after.others) last ∙ append_assoc before (p ∷ []) after.others;
-    in_flight = All-append (λ q. is_in_flight q ≡ true) (p ∷ []) after.others (one_in_flight p flies) after.in_flight;
-  }
-
   -- the last one left
   left_here : is_in_flight p ≡ false → IsUpToYoungestLeft rows left
   left_here ended =
@@ -59,9 +46,6 @@ module _ (rows : List Passage) (count : ℕ) (p : Passage) (some : 0 < count) (w
     (read : p ≡ get_or rows (count - 1) p) (after : AreInFlightAfter rows (take count rows)) where
   last_taken : take count rows ≡ take (count - 1) rows ++ p ∷ []
   last_taken = grind (arith, take_more)
-
-  pub flying_before : is_in_flight p ≡ true → AreInFlightAfter rows (take (count - 1) rows)
-  flying_before flies = one_more_after rows (take count rows) (take (count - 1) rows) p last_taken after flies
 
   pub left_before : is_in_flight p ≡ false → IsUpToYoungestLeft rows (take count rows)
   left_before ended = left_here rows (take count rows) (take (count - 1) rows) p last_taken after ended

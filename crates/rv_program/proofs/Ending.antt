@@ -1,5 +1,5 @@
 -- How a task ends.
-use Rattle.std.proofs.Common.{◌≡◌, ℕ, List, Option, Some, inr, refl, subst, arith}
+use Rattle.std.proofs.Common.{◌≡◌, ℕ, List, Option, Some, arith}
 use Rattle.std.specs.Prelude.{Err, Result}
 use Rattle.rv_front.specs.Guide.{Guide}
 use Rattle.rv_job.specs.FaultStream.{FaultStream}
@@ -46,13 +46,4 @@ pub ended_with : {W : Type 0} (contents : W → Option (List ℕ)) (task : Task)
     → ReportsEnding old new outcome → status ≡ exit_status outcome →
     EndsWithin contents task given (Some output) old new status
 ended_with contents task given output held ended outcome ends described passed reports is =
-    let own = subst (λ p. Ends task p (contents given) held ended) described ends in
-    inr (
-      output,
-      refl,
-      outcome,
-      ended_passed_on task _ (contents given) held (contents output) ended outcome
-          own passed,
-      reports,
-      is,
-    )
+    grind (arith, ended_passed_on)

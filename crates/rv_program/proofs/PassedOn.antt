@@ -75,13 +75,7 @@ ended_passed_on task predictor old held new (Err WriteFailed) (Err outcome) (
   ended,
   shows,
   (n, within, grown),
-) (same, left) =
-    subst (λ e. EndsPassedOn task predictor old new (Err e)) (sym same) (
-      text,
-      ended,
-      shows,
-      grown_left old held new n text grown left,
-    )
+) (same, left) = grind (arith, grown_left)
 ended_passed_on task predictor old held new (Err Memory) (Err outcome) (asks, kept) (same, left) =
     subst (λ e. EndsPassedOn task predictor old new (Err e)) (sym same) (asks, kept_left old held new kept left)
 ended_passed_on task predictor old held new (Err _) (Err outcome) never passes = absurd never

@@ -1,8 +1,7 @@
 -- How far a token is from the front of a line.
-use Rattle.std.proofs.Common.{◌≡◌, ℕ, zero, suc, ◌+◌, ◌-◌, ◌<◌, ◌≤◌, List, [], ◌∷◌, length}
-use Rattle.std.proofs.Common.{drop, get_or, Some, None, refl, ap, ◌∙◌, arith, true, false}
-use Rattle.std.specs.Prelude.{◌==◌, is_some}
-use Rattle.std.proofs.lemmas.Bool.Decides.{nat_tests}
+use Rattle.std.proofs.Common.{◌≡◌, ℕ, zero, suc, ◌+◌, ◌-◌, ◌<◌, ◌≤◌, List, [], ◌∷◌, length, drop, get_or, Some, None}
+use Rattle.std.proofs.Common.{refl, ap, ◌∙◌, arith, true}
+use Rattle.std.specs.Prelude.{is_some}
 use Rattle.rv_asm.specs.Token.{Lexeme, first_lexeme}
 use Rattle.rv_refusal.specs.Caret.{distance, distance_from}
 
@@ -26,9 +25,7 @@ distance-first byte bytes before = refl
 distance-size : (byte : ℕ) (bytes : List ℕ) (size left : ℕ) → 0 < size → size ≤ length (byte ∷ bytes) →
     1 + distance bytes (size - 1) left ≡ size + distance (drop size (byte ∷ bytes)) 0 left
 distance-size byte bytes zero left positive inside = absurd (omega arith)
-distance-size byte bytes (suc size) left positive inside =
-    let e : suc size - 1 ≡ size = omega arith in
-    rw e (ap (λ n. 1 + n) (distance-taken bytes size left (omega arith)) ∙ omega arith)
+distance-size byte bytes (suc size) left positive inside = grind (arith, distance-taken)
 
 -- nothing is passed over that is no token
 pub distance_none : (line : List ℕ) (before : ℕ) → 0 < length line → None ≡ first_lexeme (get_or line 0 0) line →
@@ -59,9 +56,7 @@ pub distance_token : (line : List ℕ) (before : ℕ) (found : Lexeme) → 0 < l
 distance_token [] before found some_bytes found_is token more positive inside = absurd (omega arith)
 distance_token (byte ∷ bytes) zero found some_bytes found_is token more positive inside = absurd (omega arith)
 distance_token (byte ∷ bytes) (suc before) found some_bytes found_is token more positive inside =
-    let other : (suc before == 0) ≡ false = grind (arith, nat_tests) in
-    distance-first byte bytes (suc before)
-    ∙ rw (← found_is) (rw token (rw other (distance-size byte bytes found.size (suc before - 1) positive inside)))
+    grind (arith, distance-first, distance-size)
 
 -- in no bytes there is nothing to pass over
 pub distance_empty : (line : List ℕ) (before : ℕ) → length line ≡ 0 → distance line 0 before ≡ 0

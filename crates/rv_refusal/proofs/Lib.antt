@@ -1,4 +1,3 @@
-pub mod Appended
 pub mod Distance
 pub mod Faulty
 pub mod Named

@@ -24,23 +24,9 @@ pub counts_nothing : {counts : StepCounts} → (counts.retired ≡ 0) × ((count
     counts ≡ counts_of []
 counts_nothing zeros = λ i. record { retired = zeros.0 i; traps = zeros.1.0 i; interrupts = zeros.1.1 i }
 
--- the counts of some steps
-pub counts_few : {counts : StepCounts} (steps : List Step) → counts ≡ counts_of steps → AreFew (length steps) counts
-counts_few steps is = grind (arith, count_by-le-length)
-
 -- the counts of the first steps
 module _ {counts : StepCounts} (steps : List Step) (place : ℕ) (here : place < length steps)
     (so_far : counts ≡ counts_of (take place steps)) where
-  pub counts_so_far : AreFew place counts
-  counts_so_far =
-      let few = counts_few (take place steps) so_far in
-      let taken = length-take-le place steps (omega (arith, here)) in
-      record {
-        retired = omega (arith, few.retired, taken);
-        traps = omega (arith, few.traps, taken);
-        interrupts = omega (arith, few.interrupts, taken);
-      }
-
   more : (p : Step → Bool) (step : Step) (old new : ℕ) → step ≡ get_or steps place step →
       old ≡ count_by p (take place steps) → new ≡ old + (if p step then 1 else 0) →
       new ≡ count_by p (take (place + 1) steps)

@@ -1,6 +1,6 @@
 -- A run whose report is written as its cycles come: what was written so far, one cycle more, and the end.
-use Rattle.std.proofs.Common.{◌≡◌, ◌∙◌, ℕ, ◌+◌, ◌*◌, ◌^◌, ◌≤◌, Bool, true, false, List, []}
-use Rattle.std.proofs.Common.{◌++◌, length, Option, count_by, sym, ap, refl, subst, arith}
+use Rattle.std.proofs.Common.{◌≡◌, ◌∙◌, ℕ, ◌+◌, Bool, true, false, List, [], ◌++◌, length, Option, count_by, sym, ap}
+use Rattle.std.proofs.Common.{refl, subst, arith}
 use Rattle.std.specs.Io.KnownBytes.{Appends}
 use Rattle.std.proofs.lemmas.Grind.{flat_map-append}
 use Rattle.std.proofs.lemmas.List.Sums.{count_by-le-length, sum_by-append}
@@ -17,7 +17,6 @@ use Rattle.rv_hardware.specs.Guided.{GuidedHardware, guided}
 use Rattle.rv_hardware.specs.Hardware.{Hardware}
 use Rattle.rv_hardware.specs.History.{History, Moment, reports_of}
 use Rattle.rv_hardware.specs.Run.{IsStop, steps_of}
-use Rattle.rv_hardware.specs.Step.{is_interrupt, is_retirement, is_trap}
 use Rattle.rv_hardware.specs.declared.step.Step.{Step}
 use Rattle.rv_report.specs.LiveReport.{HasTraced, IsRunReport, IsTraced}
 use Rattle.rv_report.specs.Rows.{step_line, trace_lines}
@@ -46,11 +45,7 @@ count_by-append p xs ys = sum_by-append _ xs ys
 
 -- the counts of two lists of steps are those of both
 pub counts_of-append : (xs ys : List Step) → counts_of (xs ++ ys) ≡ both_counts (counts_of xs) (counts_of ys)
-counts_of-append xs ys = λ i. record {
-  retired = count_by-append is_retirement xs ys i;
-  traps = count_by-append is_trap xs ys i;
-  interrupts = count_by-append is_interrupt xs ys i;
-}
+counts_of-append xs ys = grind (arith, count_by-append)
 
 -- the trace of a run, and then the rest, is its report
 pub traced_report : {arrivals : List Arrival} {options : Options} {old
@@ -94,15 +89,7 @@ module _ {seen : Watched} {cycle : ℕ} {steps : List Step} {after : Hardware} {
     (traced : HasTraced counts failed seen.moments before mid) where
   -- the steps of one more cycle can be counted
   pub room_for_more : HasRoom counts (length steps)
-  room_for_more =
-      let so_far = steps_of (reports_of seen.moments) in
-      let few : length so_far ≤ 8 * 2 ^ 40 =
-      omega (arith, shown.few_before, moments_counted shown.passes, shown.number, shown.counted) in
-      rw traced.counted (record {
-        retired = omega (arith, count_by-le-length is_retirement so_far, few, shown.few);
-        traps = omega (arith, count_by-le-length is_trap so_far, few, shown.few);
-        interrupts = omega (arith, count_by-le-length is_interrupt so_far, few, shown.few);
-      })
+  room_for_more = grind (arith, moments_counted, count_by-le-length)
 
   -- one more cycle, whose steps are counted and written
   pub traced_on : (counts' : StepCounts) (failed' : Bool) (now : Option (List ℕ)) →
@@ -128,13 +115,7 @@ pub traced_to_the_end : {arrivals : List Arrival} {options : Options} {old new :
     HasTraced counts failed moments before after
     → totals ≡ totals_with progress counts stop → IsTraced arrivals options old new totals failed before after
 traced_to_the_end {moments = moments} {failed = failed} {before = before} {after = after} {stop = stop} passes counted
-    stops shown traced is = rw is (record {
-      reports = reports_of moments;
-      cycles = cycles_shown passes;
-      stops = stops;
-      totals_are = λ i. totals_with (counted i) (traced.counted i) stop;
-      trace = subst (λ b. IsSaid failed before after (trace_of b (steps_of (reports_of moments)))) shown traced.trace;
-    })
+    stops shown traced is = grind (arith, cycles_shown)
 
 -- what a run came to whose steps were counted, where no trace is asked for
 pub counted_to_the_end : {arrivals : List Arrival} {options : Options} {old new : Hardware}
@@ -145,13 +126,4 @@ pub counted_to_the_end : {arrivals : List Arrival} {options : Options} {old new 
     (record { retired = run.retired; traps = run.traps; interrupts = run.interrupts }) run.stop →
     (output : Option (List ℕ)) →
     IsTraced arrivals options (guided old taught) (guided new learned) totals false output output
-counted_to_the_end {run = run} counted off is output = rw is (record {
-  reports = reports_of counted.moments;
-  cycles = cycles_shown counted.passes;
-  stops = counted.ends;
-  totals_are =
-      λ i. totals_with (counted.progress i)
-      (record { retired = counted.retired i; traps = counted.traps i; interrupts = counted.interrupts i }) run.stop;
-  trace = subst (λ b. IsSaid false output output (trace_of b (steps_of (reports_of counted.moments)))) (sym off)
-      (Appends-nothing output);
-})
+counted_to_the_end {run = run} counted off is output = grind (arith, cycles_shown, Appends-nothing)

@@ -347,10 +347,7 @@ module _ (cycle : ℕ) where
       {number : ℕ} {ps now rows : List Passage} {fs : List Flight} → MovesOn cycle number ps now rows → Show fs now →
       many test rows ≡ many test ps
   many-moved test fails never {number} fetched here = many-numbered test fails number here
-  many-moved test fails never (stays {p} ended moves) here = elim (cases_Bool (test p)) [
-    | inl holds ↦ rw holds (ap suc (many-moved test fails never moves here))
-    | inr fails_here ↦ rw fails_here (many-moved test fails never moves here)
-  ]
+  many-moved test fails never (stays {p} ended moves) here = grind (arith, many-moved test fails never moves here)
   many-moved test fails never (squashed {p} flies none moves) here =
       rw (never p, fails p flies) (many-moved test fails never moves here)
   many-moved test fails never (stands {p} {n} older flies first moves) (more is here) =
@@ -360,10 +357,7 @@ module _ (cycle : ℕ) where
   fresh-words : (words : List Fetched) →
       fresh (map of_fetched words) ≡ map of_fetched (filter (λ (f : Fetched). f.cycle == cycle) words)
   fresh-words [] = refl
-  fresh-words (f ∷ words) = elim (cases_Bool (f.cycle == cycle)) [
-    | inl holds ↦ rw holds (ap (λ l. of_fetched f ∷ l) (fresh-words words))
-    | inr fails_here ↦ rw fails_here (fresh-words words)
-  ]
+  fresh-words (f ∷ words) = grind (arith, fresh-words words)
 
   fresh-buffers : (entries : List Entry) (words : List Fetched) → Each (λ (e : Entry). e.fetched < cycle) entries →
       fresh (map of_entry entries ++ map of_fetched words)

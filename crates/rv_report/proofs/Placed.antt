@@ -20,7 +20,7 @@ use Rattle.rv_counts.specs.declared.run_places.RunPlaces.{RunPlaces}
 use Rattle.rv_counts.proofs.PlacesGrow.{add_up-push, add_up_nothing, few_seen}
 use Rattle.rv_counts.proofs.PlacesGrow.{places_counted, places_of-push, places_seen}
 use Rattle.rv_counts.proofs.PlacesOfCycle.{ArePlaced, placed}
-use Rattle.rv_report.specs.Shown.{places_shown, shows_places}
+use Rattle.rv_report.specs.Shown.{places_shown}
 use Rattle.rv_report.specs.Tally.{HasPlaced}
 use Rattle.rv_report.specs.declared.shown.{Columns.Columns, Shown.Shown}
 
@@ -122,7 +122,4 @@ pub placed_at_end : {arrivals : List Arrival} {old new : GuidedHardware} {moment
     start ≡ places_shown shown old.hardware [] old.hardware
     → HasPlaced start places (watched arrivals old moments new) →
     places ≡ places_shown shown old.hardware moments new.hardware
-placed_at_end {old = old} {new = new} {moments = moments} shown start places begun has =
-    let all = run_places old.hardware moments new.hardware in
-    has.placed ∙ ap (option_map (λ (p : RunPlaces). all)) begun
-    ∙ passed (shows_places shown) (run_places old.hardware [] old.hardware) all
+placed_at_end {old = old} {new = new} {moments = moments} shown start places begun has = grind arith

@@ -1,8 +1,8 @@
 -- What was fetched ahead of a program, word by word and cycle by cycle.
-use Rattle.std.proofs.Common.{◌≡◌, ◌∙◌, ℕ, ◌+◌, ◌≤◌, ◌<◌, Bool, true, false, List, [], ◌∷◌, ◌++◌, length}
-use Rattle.std.proofs.Common.{map, filter, take, get_or, slice_get, Some, refl, sym, ap, arith, append_assoc}
+use Rattle.std.proofs.Common.{◌≡◌, ◌∙◌, ℕ, ◌+◌, ◌≤◌, Bool, true, false, List, [], ◌∷◌, ◌++◌, length, map, filter, take}
+use Rattle.std.proofs.Common.{slice_get, Some, refl, ap, arith}
 use Rattle.std.specs.Prelude.{if◌then◌else◌}
-use Rattle.std.proofs.lemmas.List.{map-append, map_more}
+use Rattle.std.proofs.lemmas.List.{map-append}
 use Rattle.std.proofs.lemmas.List.Elements.{filter_more}
 use Rattle.std.proofs.lemmas.Option.{get_or_from_slice_get, slice_get_within}
 use Rattle.rv_hardware.specs.History.{Moment}
@@ -28,13 +28,6 @@ module _ {X Y : Type 0} (f : X → Y) where
       ∙ ap (λ y. front ++ (if p y then y ∷ [] else [])) here)
       ∙ map-append f front (if p x then x ∷ [] else [])
       ∙ ap (λ l. map f front ++ l) (map-if (p x) x)
-
-  -- what is appended of one more
-  pub appended-more : (before : List Y) (xs : List X) (place : ℕ) (x : X) → place < length xs → x ≡ get_or xs place x →
-      (before ++ map f (take place xs)) ++ f x ∷ [] ≡ before ++ map f (take (place + 1) xs)
-  appended-more before xs place x within is =
-      append_assoc before (map f (take place xs)) (f x ∷ [])
-      ∙ ap (λ l. before ++ l) (ap (λ y. map f (take place xs) ++ f y ∷ []) is ∙ sym (map_more f xs place x within))
 
 -- one more cycle
 pub speculated-push : (s : Speculated) (moments : List Moment) (last : Moment) →

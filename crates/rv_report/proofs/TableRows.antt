@@ -1,5 +1,5 @@
 -- The lines of a table, one after the other.
-use Rattle.std.proofs.Common.{◌≡◌, ℕ, ◌+◌, ◌<◌, List, [], length, take, get_or, Option, ap, arith}
+use Rattle.std.proofs.Common.{◌≡◌, ℕ, ◌+◌, ◌<◌, List, [], length, take, get_or, Option, arith}
 use Rattle.std.specs.List.{enumerate_from, flat_map}
 use Rattle.std.proofs.lemmas.List.{take_all}
 use Rattle.std.proofs.lemmas.List.FromFn.{get_or-enumerate_from, length-enumerate_from}
@@ -38,6 +38,4 @@ pub all_rows : (shown : Columns (Option Shown)) (names : List (List ℕ)) (runs 
     place ≡ length runs →
     flat_map (row_of shown names) (take place (enumerate_from 1 runs))
     ≡ flat_map (row_of shown names) (enumerate_from 1 runs)
-all_rows shown names runs place is =
-    ap (flat_map (row_of shown names))
-    (take_all place (enumerate_from 1 runs) (omega (arith, is, length-enumerate_from 1 runs)))
+all_rows shown names runs place is = grind (arith, take_all, length-enumerate_from)

@@ -1,6 +1,6 @@
 -- What is counted of a run for a comparison: nothing yet, one cycle more, and the end.
-use Rattle.std.proofs.Common.{◌≡◌, ◌∙◌, ℕ, ◌+◌, ◌-◌, ◌^◌, ◌≤◌, ◌<◌, ◌*◌, Bool, true, false, List, []}
-use Rattle.std.proofs.Common.{◌∷◌, ◌++◌, count_by, length, sym, ap, arith, length-append, Option, Some, None}
+use Rattle.std.proofs.Common.{◌≡◌, ◌∙◌, ℕ, ◌+◌, ◌^◌, ◌≤◌, ◌<◌, ◌*◌, Bool, true, false, List, [], ◌∷◌, ◌++◌, length, sym}
+use Rattle.std.proofs.Common.{ap, arith, length-append, Option, Some, None}
 use Rattle.std.specs.Prelude.{if◌then◌else◌}
 use Rattle.std.proofs.lemmas.List.Sums.{count_by-le-length}
 use Rattle.rv_isa.specs.declared.{lines.Arrival.Arrival, values.Values.Values}
@@ -14,14 +14,13 @@ use Rattle.rv_hardware.specs.Guided.{GuidedHardware}
 use Rattle.rv_hardware.specs.Hardware.{Hardware}
 use Rattle.rv_hardware.specs.History.{History, Moment, cycled, ended, reports_of}
 use Rattle.rv_hardware.specs.Run.{IsStop, Reachable, steps_of}
-use Rattle.rv_hardware.specs.Step.{is_interrupt, is_retirement, is_trap}
 use Rattle.rv_hardware.specs.declared.step.Step.{Step}
 use Rattle.rv_report.specs.Comparison.{RunsTo}
 use Rattle.rv_report.specs.Events.{AreAtMost, both_events, counted_after, events_between, events_by}
 use Rattle.rv_report.specs.Events.{events_in, events_of_drain, events_of_steps, events_so_far, no_events}
-use Rattle.rv_report.specs.Speculation.{CanCount, Speculated, in_flight, speculated_after, speculated_at, speculated_in}
+use Rattle.rv_report.specs.Speculation.{Speculated, in_flight, speculated_after, speculated_at, speculated_in}
 use Rattle.rv_report.specs.Tally.{IsTallied, losses_with}
-use Rattle.rv_report.specs.Totals.{HasRoom, both_counts, counts_of, totals_with}
+use Rattle.rv_report.specs.Totals.{both_counts, counts_of, totals_with}
 use Rattle.rv_report.specs.Shown.{places_shown, words_of}
 use Rattle.rv_report.specs.declared.shown.{Columns.Columns, TableOptions.TableOptions}
 use Rattle.rv_report.specs.declared.{events.EventCounter.EventCounter, events.Events.Events}
@@ -35,9 +34,6 @@ use Rattle.rv_report.proofs.Speculated.{speculated-push}
 abbrev sum_with : Events → Events → Events → Type 0
 sum_with a b c = both_events (both_events a b) c ≡ both_events a (both_events b c)
 
-both-both : (a b c : Events) → sum_with a b c
-both-both a b c = grind arith
-
 both-nothing : (a : Events) → both_events a no_events ≡ both_events no_events a
 both-nothing a = grind arith
 
@@ -48,9 +44,7 @@ events-push : {arrivals : List Arrival} {old now : GuidedHardware} {moments : Li
     ≡ both_events (events_in values old.hardware moments) (events_between values now.hardware last)
 events-push {old = old} values last ended = both-nothing (events_between values old.hardware last)
 events-push {old = old} {now = now} values last (cycled {moment = moment} {moments = moments} first rest) =
-    ap (both_events (events_between values old.hardware moment)) (events-push values last rest)
-    ∙ sym (both-both (events_between values old.hardware moment) (events_in values moment.after moments)
-    (events_between values now.hardware last))
+    grind (arith, events-push values last rest)
 
 one-or-none : (b : Bool) → (if b then 1 else 0) ≤ 1
 one-or-none true = omega arith
@@ -81,53 +75,16 @@ cycle-few costs cycle steps before after =
     (steps-few costs steps)
     (drain-few costs (new_drain_cost cycle before after))
 
-none-few : AreAtMost 0 no_events
-none-few = grind arith
-
 -- no cycle yet
 pub tallied_nothing : (arrivals : List Arrival) (h : GuidedHardware) (counts : StepCounts) (s : Speculated)
     (events : EventCounter) → counts ≡ counts_of [] → s ≡ speculated_at h.hardware → s.fetched ≤ 288
     → events ≡ events_so_far h.hardware.values (drain_end h.hardware) no_events →
     IsTallied counts s events (watched arrivals h [] h)
-tallied_nothing arrivals h counts s events none begun few happened = record {
-  counted = none;
-  speculated = begun;
-  happened = happened;
-  fetched = omega (arith, few);
-  mispredicted = omega (arith, ap (λ (it : Speculated). it.mispredicted) begun);
-  events_few = rw happened (few-below no_events 0 (9 * h.hardware.cycle) none-few (omega arith));
-  steps_few = omega arith;
-}
+tallied_nothing arrivals h counts s events none begun few happened = grind arith
 
 module _ {seen : Watched} {cycle : ℕ} {steps : List Step} {after : Hardware} {progress : Progress}
     (shown : IsShown seen cycle steps after progress)
     {counts : StepCounts} {s : Speculated} {events : EventCounter} (tallied : IsTallied counts s events seen) where
-  -- one more cycle can be counted
-  pub room_for_steps : HasRoom counts (length steps)
-  room_for_steps =
-      let so_far = steps_of (reports_of seen.moments) in
-      let few : (test : Step → Bool) → count_by test so_far + length steps < 2 ^ 64 =
-      λ test. omega (
-        arith,
-        count_by-le-length test so_far,
-        tallied.steps_few,
-        shown.few,
-        shown.number,
-        shown.counted,
-      ) in
-      rw tallied.counted
-      (record { retired = few is_retirement; traps = few is_trap; interrupts = few is_interrupt })
-
-  pub room_for_events : AreAtMost (2 ^ 62) events.counts
-  room_for_events = few-below events.counts (9 * seen.now.hardware.cycle) (2 ^ 62) tallied.events_few
-      (omega (arith, shown.number, shown.counted))
-
-  pub room_for_words : CanCount s
-  room_for_words = record {
-    fetched = omega (arith, tallied.fetched, shown.number, shown.counted);
-    mispredicted = omega (arith, tallied.mispredicted, shown.number, shown.counted);
-  }
-
   moment : Moment
   moment = record { report = shown.report; after = after }
 
@@ -139,11 +96,7 @@ module _ {seen : Watched} {cycle : ℕ} {steps : List Step} {after : Hardware} {
 
   speculated_now : (s' : Speculated) → s' ≡ speculated_after cycle steps after.rob after.front after.pc s →
       s' ≡ speculated_in (speculated_at seen.first.hardware) (with_shown seen shown).moments
-  speculated_now s' is =
-      let number : cycle ≡ after.cycle - 1 = omega (arith, shown.number, one_more) in
-      is ∙ (λ i. speculated_after (number i) (shown.steps_are i) after.rob after.front after.pc (tallied.speculated i))
-      ∙ sym (speculated-push (speculated_at seen.first.hardware) seen.moments
-      (record { report = shown.report; after = after }))
+  speculated_now s' is = grind (arith, speculated-push)
 
   happened_now : (events' : EventCounter) → events' ≡ counted_after cycle steps (drain_end after) events
       → events' ≡ events_so_far seen.first.hardware.values (drain_end after)
@@ -190,16 +143,7 @@ module _ {arrivals : List Arrival} {old new : GuidedHardware} {moments : List
   -- what ended can be counted together with what is in flight
   pub room_at_end : (left : ℕ) → left ≤ 288 → new.hardware.cycle ≤ 2 ^ 40 →
       counts.retired + counts.traps + left < 2 ^ 64
-  room_at_end left few within =
-      let all = steps_of (reports_of moments) in
-      rw tallied.counted (omega (
-        arith,
-        count_by-le-length is_retirement all,
-        count_by-le-length is_trap all,
-        tallied.steps_few,
-        few,
-        within,
-      ))
+  room_at_end left few within = grind (arith, count_by-le-length)
 
   -- what a run came to that ended
   pub tallied_to_the_end : {progress : Progress} {stop : Stop} {totals : Totals} {losses : Losses} {did : Events}

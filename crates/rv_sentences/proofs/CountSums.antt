@@ -6,7 +6,6 @@ use Rattle.std.proofs.lemmas.List.Sums.{sum_by-cons}
 use Rattle.std.specs.Prelude.{slice_set, sum}
 use Rattle.std.specs.List.{range_with_len, slice_get}
 use Rattle.rv_isa.specs.declared.values.Values.{Values}
-use Rattle.rv_memory.specs.Memory.{word_of}
 use Rattle.rv_sentences.specs.WordCount.{count_at, is_word, or_nothing, with_all, with_one}
 use Rattle.rv_sentences.specs.WordNotes.{Notes, note_at, notes_of}
 
@@ -72,9 +71,7 @@ module _ {X : Type 0} (place : X → Option ℕ) where
 
   -- all counts together
   pub counted_within : (values : Values) (xs : List X) → sum (notes_of values (count_at place xs)).words ≤ length xs
-  counted_within values xs =
-      let total_is = sum_is_total (count_at place xs) (word_of values.ram_base) (word_of values.ram_size) in
-      omega (arith, total_is, counts_within xs (word_of values.ram_base) (word_of values.ram_size))
+  counted_within values xs = grind (arith, sum_is_total, counts_within)
 
 -- ---- one more
 

@@ -15,9 +15,7 @@ with_one_at values place old new are = grind (arith, change_one)
 pub with_all_at : {X : Type 0} (values : Values) (place : X → Option ℕ) (xs : List X) (old new : ℕ → ℕ) →
     ((w : ℕ) → new w ≡ old w + count_at place xs w)
     → with_all place xs (notes_of values old) ≡ notes_of values new
-with_all_at values place [] old new are =
-    let same : (w : ℕ) → old w ≡ new w = λ w. let is : new w ≡ old w + 0 = are w in omega (arith, is) in
-    λ i. notes_of values (λ w. same w i)
+with_all_at values place [] old new are = grind arith
 with_all_at values place (x ∷ xs) old new are =
     let rest : ℕ → ℕ = λ w. old w + count_at place xs w in
     ap (with_one (place x)) (with_all_at values place xs old rest (λ w. refl)) ∙

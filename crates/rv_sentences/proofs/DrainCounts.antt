@@ -1,6 +1,6 @@
 -- The drains of a run, as its cycles come.
-use Rattle.std.proofs.Common.{◌≡◌, ◌∙◌, ℕ, ◌≤◌, ◌==◌, List, [], ◌∷◌, ◌++◌, length, Option, Some}
-use Rattle.std.proofs.Common.{None, cond, ap, sym, arith, append-nil, append_assoc, length-append}
+use Rattle.std.proofs.Common.{◌≡◌, ◌∙◌, ℕ, ◌≤◌, List, [], ◌∷◌, ◌++◌, length, Option, Some, None, ap, sym, arith}
+use Rattle.std.proofs.Common.{append-nil, append_assoc, length-append}
 use Rattle.std.specs.Option.{option_to_list}
 use Rattle.std.proofs.lemmas.List.Sums.{sum_by-append}
 use Rattle.rv_isa.specs.declared.lines.Arrival.{Arrival}
@@ -23,10 +23,7 @@ drains_of-push {arrivals = arrivals} {old = old} moment (cycled {moment = first}
 -- some drains and others
 pub drains_by-append : (hit : ℕ) (some more : List ℕ) → drains_by hit (some ++ more)
     ≡ both (drains_by hit some) (drains_by hit more)
-drains_by-append hit some more = λ i. record {
-  all = length-append some more i;
-  quick = sum_by-append (λ (cost : ℕ). cond (cost == hit) 1 0) some more i;
-}
+drains_by-append hit some more = grind (arith, length-append, sum_by-append)
 
 length-option : (drain : Option ℕ) → length (option_to_list drain) ≤ 1
 length-option None = omega arith

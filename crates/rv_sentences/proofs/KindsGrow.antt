@@ -1,12 +1,11 @@
 -- What is kept of some exceptions, with one more.
 use Rattle.std.proofs.Common.{◌≡◌, ◌∙◌, ℕ, zero, suc, ◌+◌, ◌≤◌, ◌<◌, ◌^◌, ◌&&◌, ◌||◌, Bool, true, false, nat_le, cond}
-use Rattle.std.proofs.Common.{⊎_elim, le-leb, List, [], ◌∷◌, ◌++◌, length, map, take, slice_index_or, refl, ap, sym}
-use Rattle.std.proofs.Common.{arith, append-nil, length-append}
+use Rattle.std.proofs.Common.{le-leb, List, [], ◌∷◌, ◌++◌, length, map, take, slice_index_or, refl, ap, sym, arith}
+use Rattle.std.proofs.Common.{append-nil, length-append}
 use Rattle.std.proofs.lemmas.Bool.{lt-leb}
-use Rattle.std.proofs.lemmas.List.{length-map, length-take-le, take-append-le, take-map, take_all}
+use Rattle.std.proofs.lemmas.List.{length-map, take_all}
 use Rattle.std.proofs.lemmas.List.Elements.{All-take, filter-append}
 use Rattle.std.proofs.lemmas.List.Sums.{count_by-le-length, length-filter}
-use Rattle.std.proofs.str.Laws.{order}
 use Rattle.std.specs.List.{filter, list_any}
 use Rattle.rv_sentences.specs.Kinds.{IsCountable, belongs, is_alike, kept_of, kept_with, kind_with, kinds_after}
 use Rattle.rv_sentences.specs.Kinds.{kinds_with}
@@ -32,10 +31,6 @@ swap_or true true c = refl
 swap_or true false c = refl
 swap_or false true c = refl
 swap_or false false c = refl
-
-or_false : (a : Bool) → (a || false) ≡ a
-or_false true = refl
-or_false false = refl
 
 or_true : (a : Bool) → (a || true) ≡ true
 or_true true = refl
@@ -98,25 +93,13 @@ module _ (e : Exception) where
   -- the first eight kinds, where there are as many
   full : (ks : List (Series Exception)) (known : Bool) → 8 ≤ length ks →
       kinds_with e (take 8 ks) ≡ take 8 (map (kind_with e) ks ++ begun known)
-  full ks known many =
-      let more = map (kind_with e) (take 8 ks) in
-      let test : nat_le 8 (length (take 8 ks)) ≡ true =
-      le-leb 8 (length (take 8 ks)) (omega (arith, length-take-le 8 ks many)) in
-      let len : length (map (kind_with e) ks) ≡ length ks = simp length-map in
-      ap (λ (b : Bool). cond (list_any (belongs e) (take 8 ks) || b) more (more ++ series_from e [] ∷ [])) test ∙
-      ap (λ (b : Bool). cond b more (more ++ series_from e [] ∷ [])) (or_true (list_any (belongs e) (take 8 ks))) ∙
-      sym (take-map (kind_with e) 8 ks)
-      ∙ sym (take-append-le 8 (map (kind_with e) ks) (begun known) (omega (arith, len, many)))
+  full ks known many = grind (arith, le-leb, or_true)
 
   -- and where there are fewer
   few : (ks : List (Series Exception)) (known : Bool) → list_any (belongs e) ks ≡ known → length ks < 8 →
       kinds_with e ks ≡ take 8 (map (kind_with e) ks ++ begun known)
   unfolding begun
-  few ks true is little =
-      let more = map (kind_with e) ks in
-      let len : length more ≡ length ks = simp length-map in
-      ap (λ (b : Bool). cond (b || nat_le 8 (length ks)) more (more ++ series_from e [] ∷ [])) is ∙
-      sym (append-nil more) ∙ sym (take_all 8 (more ++ []) (omega (arith, ap length (append-nil more), len, little)))
+  few ks true is little = grind (arith, length-map, append-nil)
   few ks false is little =
       let more = map (kind_with e) ks in
       let len : length more ≡ length ks = simp length-map in
@@ -128,18 +111,11 @@ module _ (e : Exception) where
 
   bounded : (ks : List (Series Exception)) (known : Bool) → list_any (belongs e) ks ≡ known →
       kinds_with e (take 8 ks) ≡ take 8 (map (kind_with e) ks ++ begun known)
-  bounded ks known is =
-      ⊎_elim (λ little. ap (kinds_with e) (take_all 8 ks (omega (arith, little))) ∙ few ks known is little)
-      (λ many. full ks known (omega (arith, many))) (order (length ks) 8)
+  bounded ks known is = grind (arith, few, full)
 
   -- what is kept, with one exception more
   pub kept-push : (es : List Exception) → kept_with e (kept_of es) ≡ kept_of (es ++ e ∷ [])
-  kept-push es =
-      let known : list_any (belongs e) (kinds_after [] es) ≡ (is_like e es || false) =
-      sym (or_false _) ∙ any_kind [] es in
-      let kinds = bounded (kinds_after [] es) (is_like e es || false) known ∙ ap (take 8) (sym (kinds-push [] es)) in
-      let all = sym (series_of-push es e) in
-      λ i. record { all = all i; kinds = kinds i }
+  kept-push es = grind (arith, any_kind, bounded, kinds-push, series_of-push)
 
 -- no kind counts more than all exceptions
 kind_within : (bound : ℕ) (before es : List Exception) (k : ℕ) (d : Series Exception) → length es ≤ bound →

@@ -1,6 +1,6 @@
 -- The last store to each word, as stores retire.
-use Rattle.std.proofs.Common.{◌≡◌, ◌∙◌, ℕ, List, [], ◌∷◌, ◌++◌, Some, None, refl}
-use Rattle.std.proofs.Common.{ap, sym, append-nil, append_assoc, eq-eqb, ne_eqb}
+use Rattle.std.proofs.Common.{◌≡◌, ◌∙◌, ℕ, List, [], ◌∷◌, ◌++◌, Some, None, refl, ap, sym, append-nil, append_assoc}
+use Rattle.std.proofs.Common.{eq-eqb, ne_eqb, arith}
 use Rattle.std.specs.Option.{option_or}
 use Rattle.rv_isa.specs.declared.lines.Arrival.{Arrival}
 use Rattle.rv_isa.specs.declared.values.Values.{Values}
@@ -10,16 +10,14 @@ use Rattle.rv_hardware.specs.History.{History, Moment, ended, cycled}
 use Rattle.rv_sentences.specs.LastStore.{last_store_to, store_to, stores_in, stores_of, with_stores}
 use Rattle.rv_sentences.specs.WordNotes.{notes_of}
 use Rattle.rv_sentences.specs.declared.stored.Stored.{Stored}
-use Rattle.rv_sentences.proofs.Options.{option_or-assoc, option_or-none}
+use Rattle.rv_sentences.proofs.Options.{option_or-none}
 use Rattle.rv_sentences.proofs.WordTable.{set_one}
 
 -- one more store comes last
 last_store_to-push : (stores : List Stored) (store : Stored) (word : ℕ) →
     last_store_to (stores ++ store ∷ []) word ≡ option_or (store_to store word) (last_store_to stores word)
 last_store_to-push [] store word = sym (option_or-none (store_to store word))
-last_store_to-push (first ∷ stores) store word =
-    ap (λ last. option_or last (store_to first word)) (last_store_to-push stores store word)
-    ∙ sym (option_or-assoc (store_to store word) (last_store_to stores word) (store_to first word))
+last_store_to-push (first ∷ stores) store word = grind (arith, last_store_to-push stores store word)
 
 -- a store is one to its own word
 store_to-own : (store : Stored) (word : ℕ) → word ≡ word_of store.address → store_to store word ≡ Some store.pc

@@ -49,9 +49,7 @@ joined : (on : Bool) (count next : ℕ) (rest : List ℕ)
     → (if on then with_next (count ∷ next ∷ rest) else count ∷ next ∷ rest)
     ≡ (count + (if on then next else 0)) ∷ (if on then 0 else next) ∷ rest
 joined true count next rest = refl
-joined false count next rest =
-    let same : count ≡ count + 0 = omega arith in
-    ap (λ (n : ℕ). n ∷ next ∷ rest) same
+joined false count next rest = grind arith
 
 alone : (on : Bool) (count : ℕ)
     → (if on then with_next (count ∷ []) else count ∷ []) ≡ (count + (if on then 0 else 0)) ∷ []
@@ -93,9 +91,7 @@ pub by_line_later : (listing : Listed) (word place : ℕ) (counts : List ℕ) �
     → get_or (by_line listing word counts) (suc place) 0
     ≡ (if goes_on listing (word + place) then 0 else line_count listing (word + place + 1) (drop (suc place) counts))
 by_line_later listing word place [] within = absurd (omega (arith, within))
-by_line_later listing word zero (count ∷ counts) within =
-    let here : word + 0 ≡ word = omega arith in
-    rw here (ap (λ (all : List ℕ). get_or all 1 0) (by_line_next listing word count counts (omega (arith, within))))
+by_line_later listing word zero (count ∷ counts) within = grind (arith, by_line_next)
 by_line_later listing word (suc place) (count ∷ counts) within =
     let here : word + suc place ≡ word + 1 + place = omega arith in
     let next = by_line_next listing word count counts (omega (arith, within)) in
@@ -109,28 +105,14 @@ by_line_later listing word (suc place) (count ∷ counts) within =
 pub line_joined : (listing : Listed) (first place : ℕ) (counts : List ℕ) → 0 < place → place < length counts
     → goes_on listing (first + (place - 1)) ≡ true → 0 ≡ get_or (by_line listing first counts) place 0
 line_joined listing first zero counts some within on = absurd (omega (arith, some))
-line_joined listing first (suc place) counts some within on =
-    let before : suc place - 1 ≡ place = omega arith in
-    let same : goes_on listing (first + place) ≡ true = sym (ap (λ p. goes_on listing (first + p)) before) ∙ on in
-    sym (by_line_later listing first place counts within
-    ∙ ap (λ (on : Bool). if on then 0 else line_count listing (first + place + 1) (drop (suc place) counts)) same)
+line_joined listing first (suc place) counts some within on = grind (arith, by_line_later)
 
 -- what is counted from a place on at its line
 pub line_begun : (listing : Listed) (first place : ℕ) (counts : List ℕ) → place < length counts
     → (0 < place → goes_on listing (first + (place - 1)) ≡ false)
     → line_count listing (first + place) (drop place counts) ≡ get_or (by_line listing first counts) place 0
-line_begun listing first zero counts within off =
-    let here : first + 0 ≡ first = omega arith in
-    ap (λ word. line_count listing word counts) here
-    ∙ sym (ap (λ all. get_or all 0 0) (by_line_first listing first counts within))
-line_begun listing first (suc place) counts within off =
-    let before : suc place - 1 ≡ place = omega arith in
-    let next : first + suc place ≡ first + place + 1 = omega arith in
-    let same : goes_on listing (first + place) ≡ false =
-    sym (ap (λ p. goes_on listing (first + p)) before) ∙ off (omega arith) in
-    ap (λ word. line_count listing word (drop (suc place) counts)) next
-    ∙ sym (by_line_later listing first place counts within
-    ∙ ap (λ (on : Bool). if on then 0 else line_count listing (first + place + 1) (drop (suc place) counts)) same)
+line_begun listing first zero counts within off = grind (arith, by_line_first)
+line_begun listing first (suc place) counts within off = grind (arith, by_line_later)
 
 -- ---- the count of one line, place by place
 
@@ -146,11 +128,6 @@ pub line_continues : (listing : Listed) (first last : ℕ) (counts : List ℕ)
     → get_or counts (last + 1) 0 + count_beyond listing (first + (last + 1)) (drop (last + 1 + 1) counts)
     ≡ count_beyond listing (first + last) (drop (last + 1) counts)
 line_continues listing first last counts within on = grind (arith, line_begins)
-
--- those of another line add nothing
-pub line_ends : (listing : Listed) (word : ℕ) (counts : List ℕ) → goes_on listing word ≡ false
-    → count_beyond listing word counts ≡ 0
-line_ends listing word counts off = ap (λ (on : Bool). if on then line_count listing (word + 1) counts else 0) off
 
 nothing_beyond : (on : Bool) (count : ℕ) → count ≡ 0 → (if on then count else 0) ≡ 0
 nothing_beyond true count none = none
@@ -168,17 +145,9 @@ line_fits listing word place counts = omega (arith, line_within listing word (dr
 
 -- ---- and by its word
 
-length_with_next : (on : Bool) (counts : List ℕ) → length (if on then with_next counts else counts) ≡ length counts
-length_with_next false counts = refl
-length_with_next true [] = refl
-length_with_next true (count ∷ []) = refl
-length_with_next true (count ∷ next ∷ counts) = refl
-
 length_by_line : (listing : Listed) (word : ℕ) (counts : List ℕ) → length (by_line listing word counts) ≡ length counts
 length_by_line listing word [] = refl
-length_by_line listing word (count ∷ counts) =
-    length_with_next (goes_on listing word) (count ∷ by_line listing (word + 1) counts)
-    ∙ ap suc (length_by_line listing (word + 1) counts)
+length_by_line listing word (count ∷ counts) = grind (arith, length_by_line listing (word + 1) counts)
 
 got : (counts : List ℕ) (place : ℕ) → or_nothing (slice_get counts place) ≡ get_or counts place 0
 got [] place = refl

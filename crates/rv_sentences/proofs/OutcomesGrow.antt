@@ -120,12 +120,7 @@ changed_same : {X : Type 0} (change : X → X) (notes : Notes X) (word : ℕ) (b
     → ((x : X) → change x ≡ x) → with_change change notes word ≡ notes
 changed_same change notes word true is got got_is same = rw is refl
 changed_same change notes word false is None got_is same = rw (is, got_is) refl
-changed_same change notes word false is (Some x) got_is same =
-    rw (is, got_is, is)
-    (λ i. record notes {
-      words = (ap (slice_set notes.words (word - notes.first)) (same x)
-          ∙ set_got notes.words (word - notes.first) x got_is) i;
-    })
+changed_same change notes word false is (Some x) got_is same = grind (arith, set_got)
 
 -- an instruction that is no load that retired changes nothing
 pub no_load : (costs : LoadCosts) (p : Passage) (notes : Notes Outcomes) (word : ℕ) (cost : Option ℕ) →
@@ -137,9 +132,7 @@ pub passages-last : (costs : LoadCosts) (ps : List Passage) (p : Passage) (notes
     with_passages costs (ps ++ p ∷ []) notes
     ≡ with_passages costs ps (with_change (outcomes_with costs p) notes (word_of p.pc))
 passages-last costs [] p notes = refl
-passages-last costs (q ∷ ps) p notes =
-    ap (λ (before : Notes Outcomes). with_change (outcomes_with costs q) before (word_of q.pc))
-    (passages-last costs ps p notes)
+passages-last costs (q ∷ ps) p notes = grind (arith, passages-last costs ps p notes)
 
 -- ---- what is kept is what became of the instructions
 
@@ -164,17 +157,8 @@ outcomes-here costs p ps =
     rw (eq-eqb (word_of p.pc) (word_of p.pc) refl) refl in
     outcomes-cons costs p (filter (is_in (word_of p.pc)) ps) ∙ sym (ap (outcomes_of costs) here)
 
-outcomes-other : (costs : LoadCosts) (p : Passage) (ps : List Passage) (word : ℕ) → (word ≡ word_of p.pc → ⊥) →
-    outcomes_at costs ps word ≡ outcomes_at costs (p ∷ ps) word
-outcomes-other costs p ps word other = grind arith
-
 -- some instructions before others
 pub outcomes-left : (values : Values) (costs : LoadCosts) (ps left : List Passage) →
     with_passages costs ps (notes_of values (outcomes_at costs left)) ≡ notes_of values (outcomes_at costs (ps ++ left))
 outcomes-left values costs [] left = refl
-outcomes-left values costs (p ∷ ps) left =
-    ap (λ (notes : Notes Outcomes). with_change (outcomes_with costs p) notes (word_of p.pc))
-    (outcomes-left values costs ps left) ∙
-    change_one values (outcomes_with costs p) (outcomes_at costs (ps ++ left))
-    (outcomes_at costs (p ∷ ps ++ left)) (word_of p.pc)
-    (outcomes-here costs p (ps ++ left)) (outcomes-other costs p (ps ++ left))
+outcomes-left values costs (p ∷ ps) left = grind (arith, change_one, outcomes-here, outcomes-left values costs ps left)

@@ -11,10 +11,7 @@ last_of-push first event (next ∷ events) = last_of-push next event events
 -- a series that goes on, with one event more
 pub series_from-push : {E : Type 0} (first event : E) (events : List E) →
     series_from first (events ++ event ∷ []) ≡ continued event (series_from first events)
-series_from-push first event events =
-    let count : length (events ++ event ∷ []) + 1 ≡ (length events + 1) + 1 =
-    omega (arith, length-append events (event ∷ [])) in
-    λ i. record { count = count i; first = first; last = last_of-push first event events i }
+series_from-push first event events = grind (arith, length-append, last_of-push)
 
 -- a series with one event more
 pub series_of-push : {E : Type 0} (events : List E) (event : E) → series_of (events ++ event ∷ [])

@@ -3,7 +3,6 @@ use Rattle.std.proofs.Common.{◌≡◌, ◌∙◌, ℕ, zero, suc, ◌+◌, ◌
 use Rattle.std.proofs.Common.{None, refl, ap, arith}
 use Rattle.std.specs.Prelude.{replicate, slice_set}
 use Rattle.std.specs.List.{range_with_len, slice_get}
-use Rattle.std.proofs.lemmas.Bool.{ltb-true, ltb-false}
 use Rattle.rv_isa.specs.declared.values.Values.{Values}
 use Rattle.rv_memory.specs.Memory.{word_of}
 use Rattle.rv_sentences.specs.WordNotes.{Notes, notes_of, with_change, with_note}
@@ -17,9 +16,7 @@ same_words f g a (suc n) all = λ i. all a (omega arith) (omega arith) i
 word_set : {X : Type 0} (f g : ℕ → X) (a n i : ℕ) → i < n → ((w : ℕ) → (w ≡ a + i → ⊥) → f w ≡ g w) →
     slice_set (map f (range_with_len a n)) i (g (a + i)) ≡ map g (range_with_len a n)
 word_set f g a zero i within others = absurd (omega arith)
-word_set f g a (suc n) zero within others =
-    let here : a + 0 ≡ a = omega arith in
-    λ i. g (here i) ∷ same_words f g (a + 1) n (λ w low high. others w (λ is. omega arith)) i
+word_set f g a (suc n) zero within others = grind (arith, same_words)
 word_set f g a (suc n) (suc i) within others =
     let place : a + suc i ≡ (a + 1) + i = omega arith in
     let rest = ap (λ (w : ℕ). slice_set (map f (range_with_len (a + 1) n)) i (g w)) place
@@ -59,21 +56,12 @@ module _ {X : Type 0} (change : X → X) (f g : ℕ → X) (word a n : ℕ) (her
   change_above : (inside : Bool) → nat_lt word a ≡ false → nat_lt (word - a) n ≡ inside →
       with_change change (notes_from f a n) word ≡ notes_from g a n
   unfolding notes_from
-  change_above true above within =
-      let low = ltb-false word a above in
-      let high = ltb-true (word - a) n within in
-      rw (above, word_got f a n (word - a) high, above)
-      (ap (λ words. record { first = a; words = words }) (change_within (word - a) high (omega arith)))
-  change_above false above past =
-      let low = ltb-false word a above in
-      let high = ltb-false (word - a) n past in
-      rw (above, no_word f a n (word - a) high) (all_same (λ w from to is. omega arith))
+  change_above true above within = grind (arith, word_got, change_within)
+  change_above false above past = grind (arith, no_word, all_same)
 
   change_of : (below : Bool) → nat_lt word a ≡ below → with_change change (notes_from f a n) word ≡ notes_from g a n
   unfolding notes_from
-  change_of true below =
-      let low = ltb-true word a below in
-      rw below (all_same (λ w from to is. omega arith))
+  change_of true below = grind (arith, all_same)
   change_of false above = change_above (nat_lt (word - a) n) above refl
 
   set_within : (i : ℕ) → i < n → word ≡ a + i → slice_set (map f (range_with_len a n)) i (g word)
@@ -83,21 +71,12 @@ module _ {X : Type 0} (change : X → X) (f g : ℕ → X) (word a n : ℕ) (her
   set_above : (inside : Bool) → nat_lt word a ≡ false → nat_lt (word - a) n ≡ inside →
       with_note (notes_from f a n) word (g word) ≡ notes_from g a n
   unfolding notes_from
-  set_above true above within =
-      let low = ltb-false word a above in
-      let high = ltb-true (word - a) n within in
-      rw above (ap (λ words. record { first = a; words = words }) (set_within (word - a) high (omega arith)))
-  set_above false above past =
-      let low = ltb-false word a above in
-      let high = ltb-false (word - a) n past in
-      rw above (ap (λ words. record { first = a; words = words }) (set_beyond f a n (word - a) (g word) high)
-      ∙ all_same (λ w from to is. omega arith))
+  set_above true above within = grind (arith, set_within)
+  set_above false above past = grind (arith, set_beyond, all_same)
 
   set_of : (below : Bool) → nat_lt word a ≡ below → with_note (notes_from f a n) word (g word) ≡ notes_from g a n
   unfolding notes_from
-  set_of true below =
-      let low = ltb-true word a below in
-      rw below (all_same (λ w from to is. omega arith))
+  set_of true below = grind (arith, all_same)
   set_of false above = set_above (nat_lt (word - a) n) above refl
 
 -- another note of one word
@@ -115,9 +94,7 @@ pub change_one : {X : Type 0} (values : Values) (change : X → X) (f g : ℕ �
     ((w : ℕ) → (w ≡ word → ⊥) → f w ≡ g w)
     → with_change change (notes_of values f) word ≡ notes_of values g
 unfolding notes_from
-change_one values change f g word here others =
-    change_of change f g word (word_of values.ram_base) (word_of values.ram_size) here others
-    (nat_lt word (word_of values.ram_base)) refl
+change_one values change f g word here others = grind (arith, change_of)
 
 -- the same is kept of each word
 all_alike : {X : Type 0} (note : X) (a n : ℕ) → replicate n note ≡ map (λ (w : ℕ). note) (range_with_len a n)

@@ -1,5 +1,5 @@
 -- What became of the fetched words, as instructions leave the hardware.
-use Rattle.std.proofs.Common.{◌≡◌, ◌∙◌, ℕ, ◌+◌, Bool, false, List, ◌++◌, length, filter, count_by, refl, ap, arith}
+use Rattle.std.proofs.Common.{◌≡◌, ◌∙◌, ℕ, ◌+◌, Bool, false, List, ◌++◌, filter, count_by, refl, ap, arith}
 use Rattle.std.proofs.Common.{length-append}
 use Rattle.std.specs.Prelude.{is_some, not}
 use Rattle.std.proofs.lemmas.List.Sums.{sum_by-append}
@@ -33,21 +33,6 @@ unretired p is = unretired_by p.ending is
 pub unsquashed : (p : Passage) → has_left p ≡ false → is_squash p.ending ≡ false
 unsquashed p is = unsquashed_by p.ending is
 
--- those that were squashed left the hardware
-pub squashed_left : (ps : List Passage) →
-    count_by (λ (p : Passage). is_squash p.ending) (filter has_left ps)
-    ≡ count_by (λ (p : Passage). is_squash p.ending) ps
-squashed_left ps = count-among has_left (λ p. is_squash p.ending) unsquashed ps
-
--- so did the branches and jumps that retired
-pub branches_left : (ps : List Passage) → count_by is_retired_branch (filter has_left ps)
-    ≡ count_by is_retired_branch ps
-branches_left ps = count-among has_left is_retired_branch (λ p is. rw (unretired p is) refl) ps
-
--- and those that were mispredicted
-pub mispredicted_left : (ps : List Passage) → mispredicted_among (filter has_left ps) ≡ count_by is_mispredicted ps
-mispredicted_left ps = grind (arith, mispredicted-all, count-among, unretired-right, unretired)
-
 loads_left : (costs : LoadCosts) (ps : List Passage) → loads_of costs ps ≡ loads_of costs (filter has_left ps)
 loads_left costs ps = grind (arith, count-among, unretired)
 
@@ -58,18 +43,7 @@ count-appended test new old = grind (arith, sum_by-append)
 
 -- what became of some and of others
 pub work-left : (new old : List Passage) → both_work (work_of old) (work_of new) ≡ work_of (new ++ old)
-work-left new old =
-    let left : length old + length new ≡ length (new ++ old) = omega (arith, length-append new old) in
-    let squashed = count-appended (λ p. is_squash p.ending) new old in
-    let branches = count-appended is_retired_branch new old in
-    let mispredicted : mispredicted_among old + mispredicted_among new ≡ mispredicted_among (new ++ old) = omega (
-      arith,
-      mispredicted-all old,
-      mispredicted-all new,
-      mispredicted-all (new ++ old),
-      count-appended is_mispredicted new old,
-    ) in
-    λ i. record { left = left i; squashed = squashed i; branches = branches i; mispredicted = mispredicted i }
+work-left new old = grind (arith, length-append, count-appended, mispredicted-all)
 
 -- the loads
 pub loads-left : (costs : LoadCosts) (rows old : List Passage) →

@@ -1,25 +1,20 @@
 -- The values of an array, one after the other.
-use Rattle.std.proofs.Common.{◌≡◌, ℕ, suc, ◌+◌, ◌<◌, List, [], ◌∷◌, ◌++◌, map, length, get_or}
-use Rattle.std.proofs.Common.{slice_get, take, Option, Some, None, option_map, unwrap_or, sym}
-use Rattle.std.proofs.Common.{ap, ◌∙◌, append_assoc, append-nil, arith, length-append}
+use Rattle.std.proofs.Common.{◌≡◌, ℕ, ◌+◌, ◌<◌, List, [], ◌∷◌, ◌++◌, map, length, get_or, slice_get, take, Option, None}
+use Rattle.std.proofs.Common.{option_map, unwrap_or, sym, ap, ◌∙◌, append_assoc, append-nil, arith, length-append}
 use Rattle.std.specs.List.{flat_map}
 use Rattle.std.proofs.lemmas.Grind.{flat_map-append}
-use Rattle.std.proofs.lemmas.List.{get_or-map, length-map, length-take-le, take_more}
-use Rattle.std.proofs.lemmas.Option.{get_or_from_slice_get, slice_get-map, slice_get_within, unwrap_or-slice_get}
+use Rattle.std.proofs.lemmas.List.{get_or-map, length-take-le, take_more}
+use Rattle.std.proofs.lemmas.Option.{slice_get-map, unwrap_or-slice_get}
 use Rattle.rv_text.specs.Said.{Says}
 use Rattle.rv_text.specs.declared.sink.Sink.{Sink}
-use Rattle.rv_text.proofs.Saying.{says_both, says_nothing, says_same}
+use Rattle.rv_text.proofs.Saying.{says_both, says_same}
 use Rattle.rv_states.specs.Json.{Json, comma_at, values_from}
 
 -- the values of two lists, one after the other
 pub values_from-append : (n : ℕ) (xs ys : List Json) → values_from n (xs ++ ys) ≡ values_from n xs
     ++ values_from (n + length xs) ys
 values_from-append n [] ys = ap (λ m. values_from m ys) (omega arith)
-values_from-append n (x ∷ xs) ys =
-    let same : n + 1 + length xs ≡ n + suc (length xs) = omega arith in
-    ap (λ l. (comma_at n ++ x) ++ l) (values_from-append (n + 1) xs ys)
-    ∙ sym (append_assoc (comma_at n ++ x) (values_from (n + 1) xs) (values_from (n + 1 + length xs) ys))
-    ∙ ap (λ m. ((comma_at n ++ x) ++ values_from (n + 1) xs) ++ values_from m ys) same
+values_from-append n (x ∷ xs) ys = grind (arith, append_assoc, values_from-append (n + 1) xs ys)
 
 module _ (items : List Json) (place : ℕ) (here : place < length items) where
   so_many : length (take place items) ≡ place
@@ -40,35 +35,6 @@ module _ (items : List Json) (place : ℕ) (here : place < length items) where
       Says contents b c (comma_at place ++ get_or items place []) →
       Says contents a c (values_from 0 (take (place + 1) items))
   says_value front last = says_same (sym values-more) (says_both front last)
-
--- an array has as many values as the list that they are made of
-pub has_item : {X : Type 0} (text : X → List ℕ) (items : List X) (place : ℕ) → place < length (map text items) →
-    place < length items
-has_item text items place within = omega (arith, within, length-map items text)
-
--- the text of an item of a list is that at its place
-module _ {X W : Type 0} {contents : W → Option (List ℕ)} {a b : Sink W} (text : X → List ℕ) (items : List X)
-    (place : ℕ) (item : X) where
-  -- the text of an item is that at its place among all texts
-  pub item_said : place < length (map text items) → Says contents a b (text (get_or items place item)) →
-      Says contents a b (get_or (map text items) place [])
-  item_said within = says_same
-      (sym (get_or-map text items place item [] (omega (arith, within, length-map items text))))
-
-  -- and so where the item is found there
-  pub found_said : slice_get items place ≡ Some item → Says contents a b (text item) →
-      Says contents a b (get_or (map text items) place [])
-  found_said found =
-      says_same (ap text (sym (get_or_from_slice_get items place item item found))
-      ∙ sym (get_or-map text items place item [] (slice_get_within items place item found)))
-
--- beyond the list there is no text
-pub missing_said : {X W : Type 0} {contents : W → Option (List ℕ)} {a : Sink W} (text : X → List ℕ) (items : List X)
-    (place : ℕ) → slice_get items place ≡ None → Says contents a a (get_or (map text items) place [])
-missing_said {a = a} text items place none =
-    let nothing : unwrap_or (slice_get (map text items) place) [] ≡ [] =
-    ap (λ o. unwrap_or o []) (slice_get-map text items place ∙ ap (option_map text) none) in
-    says_same (sym nothing ∙ unwrap_or-slice_get (map text items) place []) (says_nothing a)
 
 -- an array to which each item of a list gives some values: those of one item more stand after those of the items before
 given-more : {X : Type 0} (values : X → List Json) (items : List X) (place : ℕ) → place < length items →
@@ -105,22 +71,7 @@ module _ {X : Type 0} (values : X → List Json) (items : List X) (place written
   -- and counted
   pub count_given : (now : ℕ) → now ≡ written + length (get_or (map values items) place []) →
       now ≡ length (flat_map values (take (place + 1) items))
-  count_given now is =
-      omega (
-        arith,
-        is,
-        count,
-        ap length (given-more values items place here),
-        length-append (flat_map values (take place items)) (get_or (map values items) place []),
-      )
-
--- the values of an item that a list has at a place, and of none
-pub found_given : {X : Type 0} (values : X → List Json) (items : List X) (place : ℕ) (item : X) →
-    slice_get items place ≡ Some item →
-    values item ≡ get_or (map values items) place []
-found_given values items place item found =
-    given_at values items place item (slice_get_within items place item found)
-    (sym (get_or_from_slice_get items place item item found))
+  count_given now is = grind (arith, given-more, length-append)
 
 -- where no item is found, nothing is given
 pub missing_given : {X : Type 0} (values : X → List Json) (items : List X) (place : ℕ) → slice_get items place ≡ None →

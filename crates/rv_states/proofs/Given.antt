@@ -1,12 +1,11 @@
 -- The values of an array that are said item by item, with how many there are so far.
-use Rattle.std.proofs.Common.{◌≡◌, ◌∙◌, ℕ, ◌+◌, ◌<◌, ◌≤◌, List, [], length, get_or, map, take, Option, refl, ap, arith}
+use Rattle.std.proofs.Common.{◌≡◌, ◌∙◌, ℕ, ◌+◌, ◌<◌, ◌≤◌, List, [], length, get_or, map, take, Option, ap, arith}
 use Rattle.std.specs.List.{flat_map}
-use Rattle.std.proofs.lemmas.List.{take_all}
 use Rattle.rv_states.specs.Json.{Json, values_from}
 use Rattle.rv_states.proofs.Arrays.{count_given, says_given}
 use Rattle.rv_text.specs.Said.{Says}
 use Rattle.rv_text.specs.declared.sink.Sink.{Sink}
-use Rattle.rv_text.proofs.Saying.{says_nothing, says_same}
+use Rattle.rv_text.proofs.Saying.{says_same}
 
 -- those of the items before a place are said and counted, at most one of each
 pub record AreGiven {X W : Type 0} (contents : W → Option (List ℕ)) (values : X → List Json) (items : List X)
@@ -16,10 +15,6 @@ pub record AreGiven {X W : Type 0} (contents : W → Option (List ℕ)) (values 
   pub few : written ≤ place
 
 module _ {X W : Type 0} {contents : W → Option (List ℕ)} (values : X → List Json) (items : List X) where
-  -- before the first item nothing is given
-  pub given_none : (first : Sink W) → AreGiven contents values items 0 0 first first
-  given_none first = record { said = says_nothing first; count = refl; few = omega arith }
-
   -- one item more gives its value, if it has one
   pub given_on : {place written now : ℕ} {first out out' : Sink W} → place < length items →
       AreGiven contents values items place written first out →
@@ -32,10 +27,3 @@ module _ {X W : Type 0} {contents : W → Option (List ℕ)} (values : X → Lis
     count = count_given values items place written here so_far.count now (count ∙ ap (λ l. written + length l) is);
     few = omega (arith, few, so_far.few);
   }
-
-  -- after the last item all values are given
-  pub given_all : {place written : ℕ} {first out : Sink W} → length items ≤ place →
-      AreGiven contents values items place written first out →
-      Says contents first out (values_from 0 (flat_map values items))
-  given_all {place} past so_far =
-      says_same (ap (λ l. values_from 0 (flat_map values l)) (take_all place items past)) so_far.said

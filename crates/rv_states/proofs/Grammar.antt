@@ -1,8 +1,8 @@
 -- What the texts are made of is JSON, or a part of it.
-use Rattle.std.proofs.Common.{◌≡◌, ◌∙◌, ℕ, suc, ◌==◌, ◌||◌, ◌&&◌, nat_le, Bool, true, false, not, if◌then◌else◌}
-use Rattle.std.proofs.Common.{List, [], ◌∷◌, ◌++◌, codes, refl, sym, ap, subst, append_assoc, append-nil, add-one}
+use Rattle.std.proofs.Common.{◌≡◌, ◌∙◌, ℕ, suc, ◌==◌, Bool, true, false, if◌then◌else◌, List, [], ◌∷◌, ◌++◌, codes}
+use Rattle.std.proofs.Common.{refl, sym, ap, subst, append_assoc, append-nil, add-one, arith}
 use Rattle.std.specs.List.{flat_map, list_all}
-use Rattle.std.proofs.lemmas.Bool.{and_from, and_parts}
+use Rattle.std.proofs.lemmas.Bool.{and_parts}
 use Rattle.rv_text.specs.Plain.{plain_byte}
 use Rattle.rv_states.specs.Grammar.{AreCharacters, AreLines, AreMembers, AreValues, IsJson, IsMember, IsString}
 use Rattle.rv_states.specs.Grammar.{empty_array, escaped, further_member, further_value, is_unescaped, line}
@@ -53,10 +53,7 @@ one_of false first second = second refl
 
 shown : (byte : ℕ) → (byte == 34) ≡ false → (byte == 92) ≡ false → AreCharacters (plain_byte byte)
 unfolding plain_byte
-shown byte no_quote no_backslash =
-    one_of (nat_le 32 byte && nat_le byte 126)
-    (λ printing. unescaped byte [] (and_from _ _ printing (λ i. not (no_quote i || no_backslash i))) no_characters)
-    (λ _. one_of (byte == 9) (λ _. plain (codes " ") refl) (λ _. plain (codes "?") refl))
+shown byte no_quote no_backslash = grind (arith, plain)
 
 byte_of : (byte : ℕ) → AreCharacters (json_byte byte)
 unfolding json_byte
@@ -184,10 +181,7 @@ whole first others = codes "{" ++ (first ++ (others ++ codes "}"))
 whole_is : {end xs ys : List ℕ} (front : IsOpen xs) (rest : Closes end ys) →
     whole front.first (front.others ++ rest.members) ++ end ≡ xs ++ ys
 unfolding whole
-whole_is {end = end} front rest =
-    let same : whole front.first (front.others ++ rest.members) ++ end ≡ (codes "{" ++ (front.first ++ front.others))
-    ++ (rest.members ++ (codes "}" ++ end)) = simp append_assoc in
-    same ∙ (λ i. sym front.text_is i ++ sym rest.text_is i)
+whole_is {end = end} front rest = grind (arith, append_assoc)
 
 whole_json : {end xs ys : List ℕ} (front : IsOpen xs) (rest : Closes end ys) →
     IsJson (whole front.first (front.others ++ rest.members))

@@ -2,7 +2,7 @@
 -- to byte by what it waits for, takes each text that the grammar gives, and refuses each row below. So a grammar that
 -- allows more than it should is refused here.
 use Rattle.std.proofs.Common.{◌≡◌, ◌∙◌, ℕ, ◌==◌, ◌||◌, ◌&&◌, nat_le, Bool, true, false, not, if◌then◌else◌, List, []}
-use Rattle.std.proofs.Common.{◌∷◌, ◌++◌, map, codes, Option, Some, None, refl, sym, ap, append_assoc, append-nil}
+use Rattle.std.proofs.Common.{◌∷◌, ◌++◌, map, codes, Option, Some, None, refl, sym, ap, append_assoc, append-nil, arith}
 use Rattle.std.specs.Char.{is_ascii_digit, is_digit}
 use Rattle.std.specs.List.{list_all}
 use Rattle.std.specs.Option.{option_map_or}
@@ -102,9 +102,7 @@ begins_digit (byte ∷ bytes) = is_ascii_digit byte
 number_ends : (needs : List Need) (rest : List ℕ) → begins_digit rest ≡ false →
     reads (Digits ∷ needs) rest ≡ reads needs rest
 number_ends needs [] ends = refl
-number_ends needs (byte ∷ bytes) ends =
-    ap (λ test. option_map_or (λ after. reads after bytes)
-    (if test then Some (Digits ∷ needs) else after_byte byte needs) false) ends
+number_ends needs (byte ∷ bytes) ends = grind arith
 
 reads_digits : (needs : List Need) (ds rest : List ℕ) → list_all is_ascii_digit ds ≡ true → begins_digit rest ≡ false →
     reads (Digits ∷ needs) (ds ++ rest) ≡ reads needs rest
@@ -118,10 +116,7 @@ reads_digits needs (d ∷ ds) rest all ends =
 reads_number : {text : List ℕ} → IsNumber text → (needs : List Need) (rest : List ℕ) → begins_digit rest ≡ false →
     reads (Value ∷ needs) (text ++ rest) ≡ reads needs rest
 reads_number zero_alone needs rest ends = refl
-reads_number (digits first others test all) needs rest ends =
-    ap (λ test. option_map_or (λ after. reads after (others ++ rest))
-    (if test then Some (Digits ∷ needs) else after_start first needs) false) test ∙
-    reads_digits needs others rest all ends
+reads_number (digits first others test all) needs rest ends = grind (arith, reads_digits)
 
 reads_characters : {text : List ℕ} → AreCharacters text → (needs : List Need) (rest : List ℕ) →
     reads (Characters ∷ needs) (text ++ (codes "\"" ++ rest)) ≡ reads needs rest
@@ -161,13 +156,7 @@ ends_member (further_member member others is are) rest = refl
 first_number : {text : List ℕ} → IsNumber text → (needs : List Need) (rest : List ℕ) →
     reads (FirstValue ∷ needs) (text ++ rest) ≡ reads (Value ∷ FurtherValues ∷ needs) (text ++ rest)
 first_number zero_alone needs rest = refl
-first_number (digits first others test all) needs rest =
-    let further = FurtherValues ∷ needs in
-    ap (λ test. option_map_or (λ after. reads after (others ++ rest))
-    (either (if test then Some (Digits ∷ further) else after_start first further)
-    (if first == 93 then Some needs else None)) false) test ∙
-    sym (ap (λ test. option_map_or (λ after. reads after (others ++ rest))
-    (if test then Some (Digits ∷ further) else after_start first further) false) test)
+first_number (digits first others test all) needs rest = grind arith
 
 first_string : {text : List ℕ} → IsString text → (needs : List Need) (rest : List ℕ) →
     reads (FirstValue ∷ needs) (text ++ rest) ≡ reads (Value ∷ FurtherValues ∷ needs) (text ++ rest)

@@ -17,9 +17,7 @@ decimal_is (suc n) small = decimal-digits_of (suc n) (omega arith) small
 
 further_digits : (ds : List ℕ) → AllBelowBase 10 ds → list_all is_ascii_digit (map (λ digit. 48 + digit) ds) ≡ true
 further_digits [] below = refl
-further_digits (d ∷ ds) below =
-    and_from _ _ (and_from _ _ (le-leb 48 (48 + d) (omega arith)) (le-leb (48 + d) 57 (omega (arith, below.0))))
-    (further_digits ds below.1)
+further_digits (d ∷ ds) below = grind (arith, further_digits ds below.1)
 
 digits_are : (ds : List ℕ) → 0 < get_or ds 0 0 → AllBelowBase 10 ds → IsNumber (map (λ digit. 48 + digit) ds)
 digits_are [] some below = absurd (omega (arith, some))

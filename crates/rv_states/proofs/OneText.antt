@@ -1,10 +1,9 @@
 -- Of hardware that a described predictor guides there is one text of its states.
-use Rattle.std.proofs.Common.{◌∙◌, ℕ, List, ◌++◌, sym}
+use Rattle.std.proofs.Common.{ℕ, List, arith}
 use Rattle.rv_isa.specs.declared.lines.Arrival.{Arrival}
 use Rattle.rv_passage.proofs.OneRun.{one_run}
 use Rattle.rv_source.specs.Listing.{Listed}
-use Rattle.rv_states.specs.Page.{after_lines, before_lines}
-use Rattle.rv_states.specs.States.{IsStates, states_text}
+use Rattle.rv_states.specs.States.{IsStates}
 use Rattle.rv_states.specs.declared.form.Form.{Form}
 use Rattle.rv_view.specs.Run.{HasOneText}
 
@@ -12,8 +11,4 @@ use Rattle.rv_view.specs.Run.{HasOneText}
 pub one_text : (arrivals : List Arrival) (from limit : ℕ) (form : Form) (listing : Listed) →
     HasOneText limit (IsStates arrivals from limit form listing)
 one_text arrivals from limit form listing h predictor new new' stop stop' text text' within is is' =
-    let same = one_run within is.run is'.run in (
-      same.reasons,
-      is.text_is ∙ (λ i. before_lines form
-          ++ (states_text from listing h (same.moments_are i) (same.reasons i) ++ after_lines form)) ∙ sym is'.text_is,
-    )
+    grind (arith, one_run)

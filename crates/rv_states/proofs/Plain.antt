@@ -1,6 +1,6 @@
 -- No text of JSON has a byte that HTML gives a meaning.
-use Rattle.std.proofs.Common.{◌≡◌, ◌∙◌, ℕ, zero, suc, ◌+◌, ◌<◌, ◌==◌, ◌||◌, ◌&&◌, nat_le, Bool}
-use Rattle.std.proofs.Common.{true, false, if◌then◌else◌, List, [], ◌∷◌, ◌++◌, refl, ap, arith}
+use Rattle.std.proofs.Common.{◌≡◌, ◌∙◌, ℕ, zero, suc, ◌+◌, ◌<◌, ◌==◌, ◌||◌, Bool, true, false, if◌then◌else◌, List, []}
+use Rattle.std.proofs.Common.{◌∷◌, ◌++◌, refl, ap, arith}
 use Rattle.std.specs.Prelude.{codes, map}
 use Rattle.std.specs.Int.Digits.{AllBelowBase, digits_of}
 use Rattle.std.specs.List.{list_any}
@@ -26,12 +26,6 @@ both {xs = xs} {ys = ys} first second =
 pub either : (first : Bool) {xs ys : List ℕ} → HasNoMarkup xs → HasNoMarkup ys → HasNoMarkup (if first then xs else ys)
 either true one other = one
 either false one other = other
-
--- the other one where the test fails
-unless : (test : Bool) {xs ys : List ℕ} → HasNoMarkup xs → (test ≡ false → HasNoMarkup ys) →
-    HasNoMarkup (if test then xs else ys)
-unless true one other = one
-unless false one other = other refl
 
 -- a text where something holds, else none
 pub chosen : (shown : Bool) {text : List ℕ} → HasNoMarkup text → HasNoMarkup (if shown then text else [])
@@ -106,17 +100,11 @@ array_of values none = both {xs = codes "["} (plain refl) (both (values_of 0 val
 
 shown : (byte : ℕ) → (byte == 38) ≡ false → (byte == 60) ≡ false → (byte == 62) ≡ false → HasNoMarkup (plain_byte byte)
 unfolding plain_byte
-shown byte no_ampersand no_less no_greater =
-    either (nat_le 32 byte && nat_le byte 126) (plain (λ i. (no_ampersand i || (no_less i || no_greater i)) || false))
-    (either (byte == 9) (plain refl) (plain refl))
+shown byte no_ampersand no_less no_greater = grind arith
 
 byte_of : (byte : ℕ) → HasNoMarkup (json_byte byte)
 unfolding json_byte
-byte_of byte =
-    either (byte == 34) (plain refl)
-    (unless (byte == 38) (plain refl)
-    (λ no_ampersand. unless (byte == 60) (plain refl) (λ no_less. unless (byte == 62) (plain refl) (λ no_greater.
-    either (byte == 92) (plain refl) (shown byte no_ampersand no_less no_greater)))))
+byte_of byte = grind (arith, shown)
 
 -- any text as a string
 pub string_of : (text : List ℕ) → HasNoMarkup (string text)

@@ -33,15 +33,14 @@ use Rattle.rv_passage.proofs.Walk.{passages_after-push}
 use Rattle.rv_source.specs.Listing.{Listed}
 use Rattle.rv_text.specs.Said.{Extends}
 use Rattle.rv_text.proofs.Saying.{extends_both, extends_nothing, extends_same, extends_whole}
-use Rattle.rv_states.specs.Cycle.{cycle_line, json_in_flight, rest_text, start_line}
+use Rattle.rv_states.specs.Cycle.{cycle_line, json_in_flight, start_line}
 use Rattle.rv_states.specs.Instruction.{ended_text, instruction_json, passage_text}
-use Rattle.rv_states.specs.Json.{Json, also, array, begins, numeral}
+use Rattle.rv_states.specs.Json.{Json, begins, numeral}
 use Rattle.rv_states.specs.Page.{after_lines, before_lines}
-use Rattle.rv_states.specs.Predictor.{after_lessons, predictor_lines, predictor_text, untaught_predictor}
+use Rattle.rv_states.specs.Predictor.{after_lessons, untaught_predictor}
 use Rattle.rv_states.specs.Showing.{IsFollowing, IsShowing, kept_of}
 use Rattle.rv_states.specs.States.{WritesStates, begun_text, cycle_text, cycles_text, head_text, lines_text, shown_text}
-use Rattle.rv_states.specs.States.{states_text, storage_text, taught_by, window_text}
-use Rattle.rv_states.specs.Step.{step_json}
+use Rattle.rv_states.specs.States.{states_text, taught_by, window_text}
 use Rattle.rv_states.specs.Stop.{stop_line}
 use Rattle.rv_states.specs.declared.form.Form.{Form}
 use Rattle.rv_states.proofs.JsonStates.{states_are}
@@ -94,30 +93,18 @@ module _ (from : ℕ) (rows rows' : List Passage) (after : Hardware) (progress :
   line-plain : (cycle : ℕ) (steps : List Step) → map plain rows ≡ map plain rows' →
       cycle_line cycle rows steps after progress predictor ≡ cycle_line cycle rows' steps after progress predictor
   unfolding cycle_line
-  line-plain cycle steps same =
-      let is = json-plain rows ∙ ap (map instruction_json) same ∙ sym (json-plain rows') in
-      λ i. begins (codes "cycle") (numeral cycle) ++
-      (also (codes "instructions") (array (is i)) ++
-      (also (codes "steps") (array (map step_json steps)) ++
-      (rest_text after progress ++ (predictor_text predictor cycle steps after.front.entries ++ codes "}\n"))))
+  line-plain cycle steps same = grind (arith, json-plain)
 
   shown-plain : (cycle : ℕ) (steps : List Step) →
       (nat_lt from progress.cycles ≡ true → map plain rows ≡ map plain rows') →
       let text = λ (shown : List Passage). shown_text from cycle shown steps after progress predictor in
       text rows ≡ text rows'
-  shown-plain cycle steps same = elim (cases_Bool (nat_lt from progress.cycles)) [
-    | inl late ↦ rw late (line-plain cycle steps (same late))
-    | inr early ↦ rw early refl
-  ]
+  shown-plain cycle steps same = grind (arith, line-plain)
 
   begun-numbers : numbers_in_flight rows ≡ numbers_in_flight rows' →
       begun_text from rows after progress predictor ≡ begun_text from rows' after progress predictor
   unfolding window_text start_line
-  begun-numbers same =
-      let is = json-numbers rows ∙ ap (map number_json) same ∙ sym (json-numbers rows') in
-      λ i. if progress.cycles == from then storage_text after ++ (predictor_lines predictor ++
-      (begins (codes "start") (numeral after.cycle) ++ (also (codes "instructions") (array (is i)) ++
-      (rest_text after progress ++ codes "}\n")))) else []
+  begun-numbers same = grind (arith, json-numbers)
 
 -- of a cycle before the window nothing is shown
 shown-early : (from cycles : ℕ) (line window : List ℕ) → cycles < from →
@@ -179,9 +166,7 @@ module _ {seen : Watched} {cycle : ℕ} {steps : List Step} {after : Hardware} {
 
   -- so many cycles there are now
   so_many : progress.cycles ≡ length seen.moments + 1
-  so_many =
-      let reported = length-append (reports_of seen.moments) (shown.report ∷ []) in
-      omega (arith, ap (λ (p : Progress). p.cycles) shown.progress_is, reported, length-reports_of seen.moments)
+  so_many = grind (arith, length-append, length-reports_of)
 
   longer : length (seen.moments ++ moment ∷ []) ≡ length seen.moments + 1
   longer = length-append seen.moments (moment ∷ [])

@@ -1,6 +1,6 @@
 -- What the registers give after one more instruction, and the entry at a place of the reorder buffer.
 use Rattle.std.proofs.Common.{◌≡◌, ℕ, zero, suc, ◌+◌, ◌<◌, if◌then◌else◌, List, [], ◌∷◌, ◌++◌, length, take, get_or}
-use Rattle.std.proofs.Common.{slice_get, Some, refl, sym, ap, ◌∙◌, arith}
+use Rattle.std.proofs.Common.{slice_get, Some, refl, ap, ◌∙◌, arith}
 use Rattle.std.proofs.lemmas.List.{length-take-le, take_more}
 use Rattle.std.proofs.lemmas.Option.{get_or_from_slice_get, slice_get_within}
 use Rattle.rv_watch.specs.Registers.{RegisterStatus, operand_by, status_after, status_with}
@@ -38,9 +38,7 @@ pub entry_at : (status : RegisterStatus) (seq : ℕ) (es : List Entry) (place : 
     → entry_json (status_after status seq (take place es)) (seq + place) e
     ≡ get_or (entries_json status seq es) place []
 entry_at status seq [] place e is within = absurd (omega (arith, within))
-entry_at status seq (x ∷ es) zero e is within =
-    let here : seq + 0 ≡ seq = omega arith in
-    ap (λ n. entry_json status n e) here ∙ ap (entry_json status seq) (sym (get_or_from_slice_get (x ∷ es) 0 e e is))
+entry_at status seq (x ∷ es) zero e is within = grind arith
 entry_at status seq (x ∷ es) (suc place) e is within =
     let here : seq + suc place ≡ seq + 1 + place = omega arith in
     ap (λ n. entry_json (status_after (status_with status seq x) (seq + 1) (take place es)) n e) here

@@ -4,7 +4,7 @@ use Rattle.std.proofs.Common.{false, cond, List, [], ◌∷◌, ◌++◌, length
 use Rattle.std.proofs.Common.{bit_and, bit_or, min, ◌&&◌, arith, eqb, refl, ap, ap₂, ◌∙◌, length-take-le, w64}
 use Rattle.std.specs.Int.{bit_at}
 use Rattle.std.specs.Simd.Lanes.{zip2, mask_l}
-use Rattle.std.proofs.lemmas.Bool.{cases_Bool, cases_eq, cases_lt, true≢false, eqb-true, eq-eqb, ne_eqb}
+use Rattle.std.proofs.lemmas.Bool.{cases_Bool, cases_eq, cases_lt, true≢false, eqb-true, eq-eqb}
 use Rattle.std.proofs.lemmas.List.{get_or-take, get_or-drop, get_or-map, get_or-set_same, get_or-set_other}
 use Rattle.std.proofs.lemmas.List.{get_or_append_left, get_or-append_right, get_or-replicate, length-map, length-set}
 use Rattle.std.proofs.lemmas.List.{length-append, length-drop, take-append-drop}
@@ -34,10 +34,6 @@ place_within p sound seen is at within = omega (arith, rw (← is) at within, le
 -- the number of no producer says that the value is there
 pub operand_of-value : (tag held : ℕ) → tag ≡ 18446744073709551615 → operand_of tag held ≡ Value (held % 4294967296)
 operand_of-value tag held none = rw (eq-eqb tag 18446744073709551615 none) refl
-
--- and another one that it is not
-pub operand_of-tag : (tag held : ℕ) → (tag ≡ 18446744073709551615 → ⊥) → operand_of tag held ≡ Tag tag
-operand_of-tag tag held some = rw (ne_eqb tag 18446744073709551615 some) refl
 
 -- an operand that has its value keeps it, and one with another tag keeps that
 unwoken : (seq value tag held : ℕ) → eqb tag seq ≡ false →
@@ -137,12 +133,7 @@ module _ {X : Type 0} (f : X → X) (start : ℕ) (xs : List X) (room : start + 
 
   -- an item after the eight stays
   pub in_eight-above : (i : ℕ) → start + 8 ≤ i → get_or (in_eight start (map f) xs) i d ≡ get_or xs i d
-  in_eight-above i le =
-      let back : start + 8 + (i - start - 8) ≡ i = omega arith in
-      get_or-append_right (take start xs) _ start i d front (omega arith)
-      ∙ get_or-append_right (map f (take 8 (drop start xs))) _ 8 (i - start) d eight (omega arith)
-      ∙ get_or-drop (start + 8) xs (i - start - 8) d
-      ∙ ap (λ n. get_or xs n d) back
+  in_eight-above i le = grind (arith, get_or-append_right, front, eight, get_or-drop)
 
   -- each of the eight is changed
   pub in_eight-inside : (i : ℕ) → start ≤ i → i < start + 8 → get_or (in_eight start (map f) xs) i d ≡ f (get_or xs i d)
@@ -157,15 +148,7 @@ module _ {X : Type 0} (f : X → X) (start : ℕ) (xs : List X) (room : start + 
 
   -- as many items as before
   pub length-in_eight : length (in_eight start (map f) xs) ≡ length xs
-  length-in_eight =
-      length-append (take start xs) _
-      ∙ omega (
-        arith,
-        front,
-        length-append (map f (take 8 (drop start xs))) (drop (start + 8) xs),
-        eight,
-        length-drop (start + 8) xs,
-      )
+  length-in_eight = grind (arith, length-append, front, eight, length-drop)
 
 -- a change that changes nothing
 pub in_eight-same : {X : Type 0} (start : ℕ) (change : List X → List X) (xs : List X) →

@@ -78,11 +78,6 @@ module _ (seq value : ℕ) (tags values : List ℕ) where
     pub bits : (i : ℕ) → i < 8 → bit_at left i ≡ 0 → bit_at woken i ≡ cond (eqb (get_or tags i 0) seq) 1 0
     pub above : (i : ℕ) → 8 ≤ i → i < 64 → bit_at woken i ≡ 0
 
-  -- before any lane is woken, all that are marked are left, where no other has the number
-  pub Giving-start : (like : ℕ) → ((i : ℕ) → i < 8 → bit_at like i ≡ 0 → eqb (get_or tags i 0) seq ≡ false) →
-      Giving like 0 tags values
-  Giving-start like others = grind (arith, bit_at-zero)
-
   -- once one of the lanes that are left is woken, the rest are left
   pub Giving-next : (left next woken woken_next lane : ℕ) (now_tags now_values : List ℕ) → length now_tags ≡ 8 →
       length now_values ≡ 8 → lane < 8 → bit_at left lane ≡ 1 → OtherBitsStay lane left next →
@@ -129,19 +124,11 @@ module _ (seq value : ℕ) (tags values : List ℕ) where
       (long : length now_tags ≡ 8) (as_long : length now_values ≡ 8) (g : Giving 0 woken now_tags now_values) where
     -- with no lane left, each tag that was the number is gone
     pub given-tags : now_tags ≡ map (woken_tag seq) tags
-    given-tags =
-        same_number_lists now_tags (map (woken_tag seq) tags)
-        (omega (arith, long, many, length-map tags (woken_tag seq)))
-        (λ i lt. g.now_woken i (omega arith) (bit_at-zero i)
-        ∙ sym (get_or-map (woken_tag seq) tags i 0 0 (omega arith)))
+    given-tags = grind (arith, same_number_lists, length-map, get_or-map)
 
     -- with no lane left, each tag that was the number has its value
     pub given-values : now_values ≡ zip2 (woken_value seq value) tags values
-    given-values =
-        same_number_lists now_values (zip2 (woken_value seq value) tags values)
-        (omega (arith, as_long, many, length-zip2 (woken_value seq value) tags values (many ∙ sym as_many)))
-        (λ i lt. g.now_given i (omega arith) (bit_at-zero i)
-        ∙ sym (get_or-zip2 (woken_value seq value) tags values i 0 0 0 (omega arith) (omega arith)))
+    given-values = grind (arith, same_number_lists, length-zip2, get_or-zip2)
 
     equals : length (map (λ t. eqb t seq) tags) ≡ 8
     equals = length-map tags (λ t. eqb t seq) ∙ many

@@ -1,11 +1,10 @@
 -- The bits of the places in which instructions wait.
 use Rattle.std.proofs.Common.{◌≡◌, ℕ, zero, suc, ◌+◌, ◌<◌, ◌≤◌, ◌∙◌, ◌/◌, ◌^◌, Bool, true, false, cond, eqb, bit_and}
-use Rattle.std.proofs.Common.{bit_or, List, [], ◌∷◌, All, length, get_or, take, remove, slice_get, Some, inl, inr, refl}
-use Rattle.std.proofs.Common.{ap, sym, arith, length-take-le}
+use Rattle.std.proofs.Common.{bit_or, List, [], ◌∷◌, All, length, get_or, take, remove, slice_get, Some, refl, ap, sym}
+use Rattle.std.proofs.Common.{arith, length-take-le}
 use Rattle.std.specs.Int.{bit_at}
 use Rattle.std.specs.List.{AllPairs}
 use Rattle.std.specs.Option.{option_map}
-use Rattle.std.proofs.lemmas.Bool.{cases_Bool}
 use Rattle.std.proofs.lemmas.List.{get_or-take}
 use Rattle.std.proofs.lemmas.List.Elements.{All-cons, All-head, All-more, All-nil, All-tail}
 use Rattle.std.proofs.lemmas.Nat.Bits.{bit_at_and, shr_and_one}
@@ -14,7 +13,7 @@ use Rattle.rv_isa.specs.Instruction.{is_load}
 use Rattle.rv_stations.specs.declared.waiting.Waiting.{Waiting}
 use Rattle.rv_stations.specs.Column.{IsWaitMask}
 use Rattle.rv_stations.specs.Waiting.{is_asked, is_ready, loads}
-use Rattle.rv_stations.specs.PoolFields.{some_waiting, nothing, pool, IsMarkedOther, IsSoundPool}
+use Rattle.rv_stations.specs.PoolFields.{some_waiting, nothing, pool, IsSoundPool}
 use Rattle.rv_stations.specs.declared.pool.StationPool.TheInside.{Inside}
 use Rattle.rv_stations.proofs.PlaceLemmas.{All-remove, All-others}
 use Rattle.rv_stations.proofs.PoolLemmas.{length-pool, place_there, ready_by_bits, loads_by_instruction}
@@ -112,28 +111,12 @@ module _ (p : Inside) (sound : IsSoundPool p) (at : ℕ) (low : at < p.count) wh
   unasked_by : (loads_wait : Bool) → bit_at (asked_places loads_wait) place ≡ 0 → is_asked loads_wait w ≡ false
   unasked_by false unset = let set : bit_at p.held place ≡ 1 = rw same at (sound.held at 0 in_front) in
       absurd (omega (arith, set, unset))
-  unasked_by true unset = elim (cases_Bool (loads w)) [
-    | inl load ↦ elim (cases_Bool (is_ready w)) [
-      | inl ready ↦ rw (ready, load) refl
-      | inr waits ↦ rw waits refl
-    ]
-    | inr other ↦
-        let marked : IsMarkedOther p.dispatched.items p.others place = rw same at (sound.others at 0 in_front) in
-        let set : bit_at p.others place ≡ 1 = marked ∙ ap (λ b. cond b 0 1) (sym loads_here ∙ other) in
-        let set_held : bit_at p.held place ≡ 1 = rw same at (sound.held at 0 in_front) in
-        absurd (omega (arith, bit_at_and p.held p.others place, set, set_held, unset))
-  ]
+  unasked_by true unset = grind (arith, same, in_front, loads_here, bit_at_and)
 
   asked_by : (loads_wait : Bool) → is_ready w ≡ true →
       bit_at (asked_places loads_wait) place ≡ 1 → is_asked loads_wait w ≡ true
   asked_by false ready set = rw ready refl
-  asked_by true ready set = elim (cases_Bool (loads w)) [
-    | inl load ↦
-        let marked : IsMarkedOther p.dispatched.items p.others place = rw same at (sound.others at 0 in_front) in
-        let unset : bit_at p.others place ≡ 0 = marked ∙ ap (λ b. cond b 0 1) (sym loads_here ∙ load) in
-        absurd (omega (arith, bit_at_and p.held p.others place, unset, set))
-    | inr other ↦ rw (ready, other) refl
-  ]
+  asked_by true ready set = grind (arith, same, in_front, loads_here, bit_at_and)
 
   module _ (a b mask : ℕ) (of_first : IsWaitMask p.first a) (of_second : IsWaitMask p.second b) where
     -- where no operand waits, the mask has the bits of the places that are asked

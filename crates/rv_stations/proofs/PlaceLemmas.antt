@@ -79,10 +79,7 @@ module _ {A : Type 0} where
 -- one more number in a row
 range_with_len-next : (a n : ℕ) → range_with_len a n ++ (a + n) ∷ [] ≡ range_with_len a (n + 1)
 range_with_len-next a zero = let same : a + 0 ≡ a = omega arith in rw same refl
-range_with_len-next a (suc n) =
-    let next : suc n + 1 ≡ suc (n + 1) = omega arith in
-    let same : a + suc n ≡ a + 1 + n = omega arith in
-    rw (next, same) (ap (λ ns. a ∷ ns) (range_with_len-next (a + 1) n))
+range_with_len-next a (suc n) = grind (arith, range_with_len-next (a + 1) n)
 
 -- the numbers below n, then n, are those below n + 1
 pub range-next : (n : ℕ) → range_with_len 0 n ++ n ∷ [] ≡ range_with_len 0 (n + 1)

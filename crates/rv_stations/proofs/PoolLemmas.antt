@@ -55,9 +55,7 @@ same_lengths p sound = grind arith
 
 -- as many instructions wait as are counted
 pub length-pool : (p : Inside) → IsSoundPool p → length (in_places (in_all p) (take p.count p.places.items)) ≡ p.count
-length-pool p sound =
-    length-map (take p.count p.places.items) (λ place. get_or (in_all p) place some_waiting)
-    ∙ length-take-le p.count p.places.items (omega (arith, sound.within))
+length-pool p sound = grind (arith, length-map, length-take-le)
 
 -- a list without an element is the empty one
 pub none_waits : (ws : List Waiting) → length ws ≡ 0 → ws ≡ []
@@ -67,9 +65,7 @@ none_waits (w ∷ ws) none = absurd (omega arith)
 -- a place is there
 pub place_there : (p : Inside) → IsSoundPool p → (at place : ℕ) → slice_get p.places.items at ≡ Some place →
     place < vec_len p.seqs
-place_there p sound at place is =
-    let within : at < length p.places.items = slice_get_within p.places.items at place is in
-    omega (arith, sound.there at 0 within, get_or_from_slice_get p.places.items at place 0 is)
+place_there p sound at place is = grind (arith, slice_get_within, get_or_from_slice_get)
 
 -- the parts in a place make the instruction in it
 slice_get-joined : (ns : List ℕ) (fs : List Dispatched) (xs ys : List Operand) (i n : ℕ) (f : Dispatched)
@@ -85,9 +81,7 @@ slice_get-in_places : (ws : List Waiting) (n : ℕ) (places : List ℕ) (at plac
     slice_get (in_places ws (take n places)) at ≡ Some w
 slice_get-in_places ws zero places at place w low is there = absurd (omega arith)
 slice_get-in_places ws (suc n) [] at place w low is there = cc
-slice_get-in_places ws (suc n) (k ∷ ks) zero place w low is there =
-    let same : k ≡ place = cc in
-    ap Some (get_or_from_slice_get ws k w some_waiting (rw same there))
+slice_get-in_places ws (suc n) (k ∷ ks) zero place w low is there = grind (arith, get_or_from_slice_get)
 slice_get-in_places ws (suc n) (k ∷ ks) (suc at) place w low is there =
     slice_get-in_places ws n ks at place w (omega arith) is there
 

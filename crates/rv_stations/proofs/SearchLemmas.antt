@@ -134,10 +134,7 @@ passed_at : (test : Waiting → Bool) (n : ℕ) (ws : List Waiting) → ArePasse
     k < n → slice_get ws k ≡ Some w → (is_ready w && test w) ≡ false
 passed_at test zero ws passed k w low is = absurd (omega arith)
 passed_at test (suc n) [] passed k w low is = cc
-passed_at test (suc n) (v ∷ vs) passed zero w low is = elim (cases_Bool (is_ready v && test v)) [
-  | inl passes ↦ let found : Some v ≡ None = rw passes at passed in absurd (cc)
-  | inr fails ↦ let same : v ≡ w = cc in rw (← same) fails
-]
+passed_at test (suc n) (v ∷ vs) passed zero w low is = grind arith
 passed_at test (suc n) (v ∷ vs) passed (suc k) w low is = elim (cases_Bool (is_ready v && test v)) [
   | inl passes ↦ let found : Some v ≡ None = rw passes at passed in absurd (cc)
   | inr fails ↦ passed_at test n vs (rw fails at passed) k w (omega (arith, low)) is

@@ -1,23 +1,19 @@
 -- Operands that are woken eight at a time: those whose bits are cleared are woken, and the others can still be.
-use Rattle.std.proofs.Common.{◌≡◌, sym, ℕ, ◌+◌, ◌<◌, ◌≤◌, ◌∙◌, true, List, length, get_or, map, arith, refl, ap, inl}
+use Rattle.std.proofs.Common.{◌≡◌, sym, ℕ, ◌+◌, ◌<◌, ◌≤◌, ◌∙◌, List, length, get_or, map, arith, ap, inl}
 use Rattle.std.proofs.Common.{inr}
 use Rattle.std.specs.Int.{bit_at}
-use Rattle.std.proofs.lemmas.Bool.{cases_lt, true≢false}
+use Rattle.std.proofs.lemmas.Bool.{cases_lt}
 use Rattle.std.proofs.lemmas.List.{get_or-map, ext_get_or, length-map}
 use Rattle.rv_stations.specs.declared.waiting.Operand.{Operand}
-use Rattle.rv_stations.specs.declared.waiting.Operand.TheVariants.{Value, Tag}
-use Rattle.rv_stations.specs.Waiting.{has_value, woken_operand}
-use Rattle.rv_stations.specs.Column.{IsWaitMask, in_eight}
-use Rattle.rv_stations.proofs.ColumnLemmas.{set_bit, in_eight-below, in_eight-above, in_eight-inside, length-in_eight}
+use Rattle.rv_stations.specs.declared.waiting.Operand.TheVariants.{Value}
+use Rattle.rv_stations.specs.Waiting.{woken_operand}
+use Rattle.rv_stations.specs.Column.{in_eight}
+use Rattle.rv_stations.proofs.ColumnLemmas.{in_eight-below, in_eight-above, in_eight-inside, length-in_eight}
 
 -- what is woken twice is woken
 woken_operand-twice : (seq value : ℕ) (o : Operand) →
     woken_operand seq value (woken_operand seq value o) ≡ woken_operand seq value o
 woken_operand-twice seq value operand = grind arith
-
-has_value-unwoken : (seq value : ℕ) (o : Operand) → has_value o ≡ true → woken_operand seq value o ≡ o
-has_value-unwoken seq value (Value held) has = refl
-has_value-unwoken seq value (Tag tag) has = absurd (true≢false (sym has))
 
 -- the operands whose bits are cleared are woken, and the others can still be
 pub record Waking (seq value left : ℕ) (old now : List Operand) : Type 0 where
@@ -26,10 +22,6 @@ pub record Waking (seq value left : ℕ) (old now : List Operand) : Type 0 where
       woken_operand seq value (get_or now i (Value 0)) ≡ woken_operand seq value (get_or old i (Value 0))
   pub done : (i : ℕ) → i < length old → bit_at left i ≡ 0 →
       woken_operand seq value (get_or now i (Value 0)) ≡ get_or now i (Value 0)
-
--- at the start no operand is woken
-pub Waking-start : (seq value left : ℕ) (os : List Operand) → IsWaitMask os left → Waking seq value left os os
-Waking-start seq value left os marked = grind (arith, has_value-unwoken, set_bit)
 
 -- where every bit is cleared, all are woken
 pub Waking-end : (seq value left : ℕ) (old now : List Operand) → ((i : ℕ) → i < length old → bit_at left i ≡ 0) →

@@ -4,12 +4,11 @@ use Rattle.std.proofs.Common.{refl, sym, ap, subst, ◌∙◌, append_assoc, app
 use Rattle.std.specs.Prelude.{Bool, true, false, Result, Ok, Err, is_err}
 use Rattle.std.specs.List.{flat_map}
 use Rattle.std.proofs.lemmas.List.{take_all}
-use Rattle.rv_text.specs.IsText.{IsText}
-use Rattle.rv_text.specs.Said.{Extends, IsSaid, Says, answered}
+use Rattle.rv_text.specs.Said.{Extends, IsSaid, Says}
 use Rattle.rv_text.specs.Written.{IsWritten}
 use Rattle.rv_text.specs.declared.sink.Sink.{Sink}
-use Rattle.rv_text.proofs.Writing.{Appends-both, Appends-nothing, Appends-same, beginning-both, beginning-longer}
-use Rattle.rv_text.proofs.Writing.{beginning-same, flat_map-more, texts_below, texts_below-more}
+use Rattle.rv_text.proofs.Writing.{Appends-both, Appends-nothing, Appends-same, beginning-both, beginning-same}
+use Rattle.rv_text.proofs.Writing.{flat_map-more, texts_below, texts_below-more}
 
 said_same : (failed : Bool) (before now : Option (List ℕ)) (xs ys : List ℕ) → xs ≡ ys → IsSaid failed before now xs →
     IsSaid failed before now ys
@@ -42,12 +41,6 @@ extends_same same extended = rw same at extended
 pub extends_whole : {failed : Bool} {old new : Option (List ℕ)} {text : List ℕ} → Extends false failed old new text →
     IsSaid failed old new text
 extends_whole {old = old} extended = extended.extends old [] (Appends-nothing old)
-
-answered_text : {T : Type 0} (Is : T → List ℕ → Type 0) (answer : T) (text : List ℕ) (failed : Bool)
-    (before now : Option (List ℕ)) → Is answer text → IsSaid failed before now text →
-    IsText Is (answered failed answer) before now
-answered_text Is answer text true before now is said = (answer, text, is, said)
-answered_text Is answer text false before now is said = (text, is, said)
 
 module _ {W : Type 0} {contents : W → Option (List ℕ)} where
   -- nothing is said
@@ -99,14 +92,6 @@ module _ {W : Type 0} {contents : W → Option (List ℕ)} where
       Says contents a b (flat_map text (take place items)) → Says contents a b (flat_map text items)
   says_all text items place past said = says_same (ap (flat_map text) (take_all place items past)) said
 
-  -- what was not whole goes on as it is
-  pub says_no_more : (a : Sink W) (text : List ℕ) → a.has_failed ≡ true → Says contents a a text
-  says_no_more a text failed = record {
-    same = refl;
-    grows = λ before first said. rw failed
-        (beginning-longer before (contents a.writer.now) first text (rw failed at said));
-  }
-
   -- what was whole is written on, or a beginning of more
   pub says_more : {T E : Type 0} (r : Result T E) (a b : Sink W) (text : List ℕ) →
       b.writer.ghost_name ≡ a.writer.ghost_name → a.has_failed ≡ false → b.has_failed ≡ is_err r
@@ -144,14 +129,6 @@ module _ {W : Type 0} {contents : W → Option (List ℕ)} where
       a.has_failed ≡ false → Says contents a b text → IsWritten r (contents a.writer.now) (contents b.writer.now) text
   says_written (Ok done) is whole says = rw (sym is) at (said_whole says whole)
   says_written (Err error) is whole says = rw (sym is) at (said_whole says whole)
-
-  -- and answers what the text is right for
-  pub says_text : {T : Type 0} {a b : Sink W} {text : List ℕ} (Is : T → List ℕ → Type 0) (answer : T) → Is answer text →
-      a.has_failed ≡ false → Says contents a b text
-      → IsText Is (answered b.has_failed answer) (contents a.writer.now) (contents b.writer.now)
-  says_text {a = a} {b = b} {text = text} Is answer is whole says =
-      answered_text Is answer text b.has_failed (contents a.writer.now) (contents b.writer.now) is
-      (said_whole says whole)
 
 -- what is said by calls one after the other, and by loops
 pub ruleset saying = (says_nothing, says_both, says_at, says_item, says_all)

@@ -32,15 +32,6 @@ Appends-kept (Some a) (Some b) (Some c) xs first kept = kept ∙ first
 pub Appends-same : (a b : Option (List ℕ)) (xs ys : List ℕ) → xs ≡ ys → Appends a b xs → Appends a b ys
 Appends-same a b xs ys same appended = rw same at appended
 
--- a beginning of a text is a beginning of a longer one
-pub beginning-longer : (a b : Option (List ℕ)) (xs ys : List ℕ) → AppendsBeginning a b xs →
-    AppendsBeginning a b (xs ++ ys)
-beginning-longer a b xs ys (n, within, appended) = (
-  n,
-  omega (arith, length-append xs ys),
-  Appends-same a b (take n xs) (take n (xs ++ ys)) (sym (take-append-le n xs ys (omega arith))) appended,
-)
-
 -- a text and a beginning of the next are a beginning of both
 pub beginning-both : (a b c : Option (List ℕ)) (xs ys : List ℕ) → Appends a b xs → AppendsBeginning b c ys →
     AppendsBeginning a c (xs ++ ys)

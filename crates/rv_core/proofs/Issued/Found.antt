@@ -90,9 +90,7 @@ module _ (h : Hardware) (kind : Kind) where
         Found kind (values_in h.registers) h.rob.retired h.rob.entries test_of
         (is_ready_entry h kind) [] h.rob.entries →
         Leaving ready
-    leaves_by result ready answer is (inl n) =
-        let none = ap (oldest_ready test_of) (from_first h.rob.entries) ∙ n.searched in
-        absurd (let nothing = sym is ∙ answer ∙ ap (option_and_then ready_of) none in cc)
+    leaves_by result ready answer is (inl n) = grind arith
     leaves_by result ready answer is (inr f) =
         let status = status_after (values_in h.registers) h.rob.retired f.prior in
         let place = h.rob.retired + length f.prior in

@@ -1,19 +1,18 @@
 -- What the parts answer to a search in the stations is what the definition's turn finds and starts.
-use Rattle.rv_core.proofs.Words.{◌≡◌, ℕ, ◌+◌, ◌<◌, Bool, true, false, List, [], length, nat_le, take, Some, None}
-use Rattle.rv_core.proofs.Words.{Option, option_and_then, sym, refl, ap, ◌∙◌, subst, inl, inr, cases_Bool, cond-false}
-use Rattle.rv_core.proofs.Words.{cond-true, at_kind, with_kind, Kind, PerKind, UnitPool, is_free, started}
-use Rattle.rv_core.proofs.Words.{ReorderBuffer, changed, Entry, Hardware, is_ready_entry, issue_oldest, issue_turn}
-use Rattle.rv_core.proofs.Words.{oldest, Ends, GoesOn, stores_after, at_kind-by_kind, with_kind-back, Queue, Pool}
-use Rattle.rv_core.proofs.Words.{taken_from, oldest_ready, ready_of, without_oldest_ready, Ready, Station, Pending}
-use Rattle.rv_core.proofs.Words.{holds, started_unit, goes, IsSound, hardware_of, IsLegalCost, IsSoundHardware, AreTied}
-use Rattle.rv_core.proofs.Words.{pool_of_kind, Inside}
+use Rattle.std.proofs.Common.{arith}
+use Rattle.rv_core.proofs.Words.{◌≡◌, ℕ, ◌+◌, ◌<◌, Bool, true, false, List, [], length, nat_le, Some, None}
+use Rattle.rv_core.proofs.Words.{Option, option_and_then, sym, ap, ◌∙◌, subst, at_kind, with_kind, Kind, PerKind}
+use Rattle.rv_core.proofs.Words.{UnitPool, is_free, started, ReorderBuffer, changed, Entry, Hardware, is_ready_entry}
+use Rattle.rv_core.proofs.Words.{issue_oldest, issue_turn, oldest, Ends, GoesOn, stores_after, with_kind-back, Queue}
+use Rattle.rv_core.proofs.Words.{Pool, taken_from, oldest_ready, ready_of, without_oldest_ready, Ready, Station}
+use Rattle.rv_core.proofs.Words.{Pending, holds, started_unit, goes, IsSound, hardware_of, IsSoundHardware, AreTied}
+use Rattle.rv_core.proofs.Words.{Inside}
 use Rattle.rv_units.specs.Bus.{with_result}
 use Rattle.rv_core.proofs.Issued.Executed.{Execution, is_issued, is_sound, is_tied, started_hardware}
 use Rattle.rv_core.proofs.Issued.Found.{Leaving, leaves, nothing_leaves, stationed_now, test_of}
 use Rattle.rv_stations.specs.Waiting.{ArePassedBy}
-use Rattle.rv_core.specs.Access.{path_of_ready}
 use Rattle.rv_core.specs.Passed.{NoneIssues}
-use Rattle.rv_core.proofs.Issued.Passed.{passed_later, port_later}
+use Rattle.rv_core.proofs.Issued.Passed.{passed_later}
 use Rattle.rv_core.proofs.Issued.Tied.{absent_from_bus, room_on_bus}
 
 -- the test that the code asks is the definition's
@@ -25,9 +24,7 @@ test_in_code sound kind port = λ j. goes kind (sound.sound.cache.layout j) (sou
 -- the stations hold what the instructions in flight determine
 waiting_in_stations : {parts : Inside} → IsSound parts → (kind : Kind) →
     (at_kind kind parts.stations).waiting ≡ stationed_now (hardware_of parts) kind
-waiting_in_stations {parts = parts} sound kind =
-    ap (λ (s : PerKind Pool). (at_kind kind s).waiting) sound.tied.stationed
-    ∙ ap (λ p. p.waiting) (at_kind-by_kind (pool_of_kind parts.values parts.registers parts.rob) kind)
+waiting_in_stations {parts = parts} sound kind = grind arith
 
 module _ {parts : Inside} (sound : IsSound parts) {old : Hardware} (view : hardware_of parts ≡ old)
     (kind : Kind) {idle : Bool}
@@ -48,18 +45,10 @@ module _ {parts : Inside} (sound : IsSound parts) {old : Hardware} (view : hardw
   same_waiting : (at_kind kind parts.stations).waiting ≡ stationed_now h kind
   same_waiting = waiting_in_stations sound kind
 
-  -- what the definition's stations pass by, those of the parts do
-  pub passed_in_code : (n : ℕ) → NoneIssues kind n old → ArePassedBy code_test n (at_kind kind parts.stations).waiting
-  passed_in_code n passed =
-      (λ j. oldest_ready (same_test j) (take n (same_waiting j))) ∙ subst (NoneIssues kind n) (sym view) passed
-
   -- where a unit is free, a turn goes by what the definition finds
   turn_of_found : {found : Option (List Entry × Entry)} → is_free parts.cycle (at_kind kind parts.units) ≡ true →
       oldest (is_ready_entry h kind) h.rob.entries ≡ found → issue_oldest kind h found ≡ issue_turn kind old
-  turn_of_found free is =
-      sym (cond-true (is_free parts.cycle (at_kind kind parts.units))
-      (issue_oldest kind h (oldest (is_ready_entry h kind) h.rob.entries)) (Ends h) free ∙ ap (issue_oldest kind h) is)
-      ∙ ap (issue_turn kind) view
+  turn_of_found free is = grind arith
 
   module _ {result : Option Ready}
       (answer : result ≡ option_and_then ready_of (oldest_ready code_test (at_kind kind parts.stations).waiting)) where
@@ -135,26 +124,12 @@ module _ {parts : Inside} (sound : IsSound parts) {old : Hardware} (view : hardw
         }
 
         still_idle : nat_le x.port_free parts.cycle ≡ true → idle ≡ true
-        still_idle is =
-            let legal : IsLegalCost parts.cache.values =
-            subst IsLegalCost (sym sound.sound.cache.values) sound.sound.legal.cache.1 in
-            is_idle
-            ∙ port_later parts.cycle parts.port_free parts.cache
-            (path_of_ready parts.cache parts.stores ready) legal.hit.0
-            (ap (λ n. nat_le n parts.cycle) (sym x.ports) ∙ is)
+        still_idle is = grind arith
 
         -- those that this search passed by, the next one may pass by
         pub passed_after : (n : ℕ) → ArePassedBy code_test n (at_kind kind stations).waiting →
             NoneIssues kind n (hardware_of after)
-        passed_after n passed =
-            let layout = sound.sound.cache.layout ∙ sym sound_after.sound.cache.layout in
-            (λ j. oldest_ready (sym (test_in_code sound_after kind refl) j)
-            (take n (sym (waiting_in_stations sound_after kind) j)))
-            ∙ passed_later kind x.cache.backing.layout parts.stores.stores idle
-            (nat_le x.port_free parts.cycle) still_idle n
-            (at_kind kind stations).waiting
-            (subst (λ l. ArePassedBy (goes kind l parts.stores.stores idle) n
-            (at_kind kind stations).waiting) layout passed)
+        passed_after n passed = grind (arith, sound_after, passed_later, still_idle)
 
         -- the hardware that they stand for is what the definition's turn goes on with
         pub turn_after : is_free parts.cycle (at_kind kind parts.units) ≡ true →
@@ -166,12 +141,7 @@ module _ {parts : Inside} (sound : IsSound parts) {old : Hardware} (view : hardw
   -- where no instruction of the kind has its operands, a turn ends the phase and changes nothing
   pub turn_unready : ((test : Station → Bool) → oldest_ready test (at_kind kind parts.stations).waiting ≡ None) →
       Ends h ≡ issue_turn kind old
-  turn_unready none = elim (cases_Bool (is_free parts.cycle (at_kind kind parts.units))) [
-    | inl free ↦ turn_ends (sym (ap (option_and_then ready_of) (none code_test))) free refl
-    | inr held ↦ sym (cond-false (is_free parts.cycle (at_kind kind parts.units))
-        (issue_oldest kind h (oldest (is_ready_entry h kind) h.rob.entries)) (Ends h) held)
-        ∙ ap (issue_turn kind) view
-  ]
+  turn_unready none = grind (arith, turn_ends)
 
   -- and so where none waits
   pub turn_empty : (at_kind kind parts.stations).waiting ≡ [] → Ends h ≡ issue_turn kind old

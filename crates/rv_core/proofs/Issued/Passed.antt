@@ -1,7 +1,6 @@
 -- What a search passed by, the next one of the phase may pass by: the port is no sooner idle after a start.
-use Rattle.rv_core.proofs.Words.{◌≡◌, ℕ, ◌≤◌, Bool, true, List, [], ◌∷◌, nat_le, None, Option, refl, arith, CacheLine}
-use Rattle.rv_core.proofs.Words.{CacheValues, Kind, Memory, Contents, cost_of_access, Path, Mem, Store, Layout}
-use Rattle.rv_core.proofs.Words.{oldest_ready, Station, port_after, goes}
+use Rattle.rv_core.proofs.Words.{◌≡◌, ℕ, Bool, true, List, [], ◌∷◌, None, refl, arith, Kind, Mem, Store, Layout}
+use Rattle.rv_core.proofs.Words.{oldest_ready, Station, goes}
 use Rattle.rv_stations.specs.Waiting.{ArePassedBy}
 
 -- a test that passes no more than another finds nothing where the other does not
@@ -22,13 +21,3 @@ pub passed_later : (kind : Kind) (layout : Layout) (stores : List Store) (idle s
     (n : ℕ) (ws : List Station) → ArePassedBy (goes kind layout stores idle) n ws →
     ArePassedBy (goes kind layout stores still) n ws
 passed_later kind layout stores idle still later n ws passed = grind (arith, none_by, goes, goes_later)
-
--- an access takes a cycle at least
-cost_least : (values : CacheValues) → 1 ≤ values.hit → (is_hit : Bool) (dropped : Option CacheLine) →
-    1 ≤ cost_of_access values is_hit dropped
-cost_least values hit is_hit dropped = grind (arith, hit)
-
--- the port is idle after a start only if it was before
-pub port_later : (cycle port_free : ℕ) (cache : Contents Memory) (path : Path) → 1 ≤ cache.values.hit →
-    nat_le (port_after cycle port_free cache path) cycle ≡ true → nat_le port_free cycle ≡ true
-port_later cycle port_free cache path hit is = grind (arith, cost_least)

@@ -94,9 +94,7 @@ module _ (e : Entry) (rest : List Entry) (waits : is_waiting e.stage ≡ true) w
   -- there is room for the result of an instruction that waits
   pub pending_room : (n : ℕ) (before : List Entry) → length (pending_from n (before ++ e ∷ rest))
       < length (before ++ e ∷ rest)
-  pending_room n [] =
-      let none = ap (λ l. length (l ++ pending_from (n + 1) rest)) (pending_waiting n e.stage waits) in
-      omega (arith, none, length-pending (n + 1) rest)
+  pending_room n [] = grind (arith, length-pending)
   pending_room n (x ∷ before) =
       omega (
         arith,

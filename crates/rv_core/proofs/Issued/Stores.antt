@@ -1,10 +1,9 @@
 -- The stores older than an instruction are the same in the queue and in the definition.
-use Rattle.rv_core.proofs.Words.{◌≡◌, ℕ, ◌+◌, ◌<◌, ◌≤◌, Bool, true, false, cond, List, [], ◌∷◌, ◌++◌, length, All, sym}
-use Rattle.rv_core.proofs.Words.{refl, ap, ◌∙◌, append_assoc, arith, le-ltb, lt-ltb, All-cons, All-head, All-tail}
-use Rattle.rv_core.proofs.Words.{list_all, is_store, is_known_store, Store, Entry, Hardware, broadcast_of}
-use Rattle.rv_core.proofs.Words.{store_of_broadcast, stores_of, stores_after, AreBelow, AreBelow-append, AreBelow-head}
-use Rattle.rv_core.proofs.Words.{AreBelow-tail, AreBelow-weaken, below-split, first_unknown, older_than}
-use Rattle.rv_core.proofs.Words.{is_known_before}
+use Rattle.rv_core.proofs.Words.{◌≡◌, ℕ, ◌+◌, ◌<◌, ◌≤◌, Bool, true, false, cond, List, [], ◌∷◌, ◌++◌, length, All, refl}
+use Rattle.rv_core.proofs.Words.{ap, ◌∙◌, append_assoc, arith, le-ltb, lt-ltb, All-cons, All-head, All-tail, list_all}
+use Rattle.rv_core.proofs.Words.{is_store, is_known_store, Store, Entry, Hardware, broadcast_of, store_of_broadcast}
+use Rattle.rv_core.proofs.Words.{stores_of, stores_after, AreBelow, AreBelow-append, AreBelow-head, AreBelow-tail}
+use Rattle.rv_core.proofs.Words.{AreBelow-weaken, below-split, first_unknown, older_than, is_known_before}
 
 abbrev seq_of : Store → ℕ
 seq_of s = s.seq
@@ -63,9 +62,7 @@ module _ (h : Hardware) (retired : AreBelow seq_of h.rob.retired h.committed) (o
   place = h.rob.retired + length older
 
   split : stores_after h (older ++ rest) ≡ stores_after h older ++ stores_of place rest
-  split =
-      ap (λ l. h.committed ++ l) (stores_of-append h.rob.retired older rest)
-      ∙ sym (append_assoc h.committed (stores_of h.rob.retired older) (stores_of place rest))
+  split = grind (arith, stores_of-append, append_assoc)
 
   low : AreBelow seq_of place (stores_after h older)
   low =

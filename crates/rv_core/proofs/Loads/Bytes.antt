@@ -73,12 +73,4 @@ module _ (base size : ℕ) (ss : List Store) (bytes : List ℕ) (sized : length 
       ≡ take (bytes_of width) (bytes_over (forwarded ss address (bytes_of width))
       (slice_range bytes place (place + bytes_of width) ++ padding))
   bytes_from_cache padding =
-      let block = slice_range bytes place (place + bytes_of width) in
-      let long : length block ≡ bytes_of width =
-      length-between bytes place (place + bytes_of width) (omega arith) ∙ omega arith in
-      bytes_laid ram (block ++ padding) ss address place width within
-      (λ k lt.
-      byte_after k
-      ∙ ap (unwrap_or (youngest_byte (address + k) ss))
-      (sym (get_or_append_left block padding 0 k (omega (arith, long))
-      ∙ get_or-between bytes place (place + bytes_of width) k 0 (omega arith))))
+      grind (arith, length-between, bytes_laid, within, byte_after, get_or_append_left, get_or-between)

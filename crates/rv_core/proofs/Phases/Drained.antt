@@ -45,24 +45,6 @@ none_drains seq (e ∷ es) =
 
 -- the whole queue
 
--- the store whose access is over leaves the retired ones, whatever is in flight after them
-pub without_drained_after : (ss flight : List QueuedStore) → NoneDrains flight →
-    without_drained (ss ++ flight) ≡ without_drained ss ++ flight
-without_drained_after [] flight none = none.stays
-without_drained_after (s ∷ ss) flight none = grind arith
-
--- the oldest store to drain is one of the retired ones, whatever is in flight after them
-pub oldest_after : (ss flight : List QueuedStore) → NoneDrains flight →
-    oldest_to_drain (ss ++ flight) ≡ oldest_to_drain ss
-oldest_after [] flight none = none.idle
-oldest_after (s ∷ ss) flight none = refl
-
--- the oldest store drains where the oldest retired one does
-pub is_draining_after : (ss flight : List QueuedStore) → NoneDrains flight →
-    is_oldest_draining (ss ++ flight) ≡ is_oldest_draining ss
-is_draining_after [] flight none = none.rests
-is_draining_after (s ∷ ss) flight none = refl
-
 -- a drain that starts changes the retired stores alone
 pub draining_after : (ss flight : List QueuedStore) (access : StoreAccess) → oldest_to_drain ss ≡ Some access →
     with_oldest_draining (ss ++ flight) ≡ with_oldest_draining ss ++ flight

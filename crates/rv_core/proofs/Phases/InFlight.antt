@@ -1,4 +1,5 @@
 -- The hardware with other instructions in flight, or with other fetched words, is as sound.
+use Rattle.std.proofs.Common.{arith}
 use Rattle.rv_core.proofs.Words.{◌≡◌, ◌≤◌, false, List, length, All, AllPairs, is_serialising, Entry, FetchBuffer}
 use Rattle.rv_core.proofs.Words.{Hardware, IsDecoded, IsSoundEntry, IsSoundHardware}
 
@@ -8,19 +9,4 @@ pub sound_in_flight : (h : Hardware) (es : List Entry) (front : FetchBuffer) →
     All (IsSoundEntry h.values) es
     → AllPairs (λ older younger. is_serialising older.instruction ≡ false) es → All IsDecoded front.entries
     → IsSoundHardware (record h { rob = record h.rob { entries = es }; front = front })
-sound_in_flight h es front sound fits each serial decoded = record {
-  legal = sound.legal;
-  cycles = sound.cycles;
-  port = sound.port;
-  registers = sound.registers;
-  cache = sound.cache;
-  entries = record {
-    capacity = sound.entries.capacity;
-    within = fits;
-    numbers = sound.entries.numbers;
-    each = each;
-    serial = serial;
-  };
-  stores = sound.stores;
-  fetched = decoded;
-}
+sound_in_flight h es front sound fits each serial decoded = grind arith

@@ -1,4 +1,5 @@
 -- Parts of which the retired stores, the cache and the port alone change are sound, and stand for the hardware so changed.
+use Rattle.std.proofs.Common.{arith}
 use Rattle.rv_core.proofs.Words.{◌≡◌, ℕ, ◌^◌, ◌≤◌, List, refl, Memory, Contents, Store as QueuedStore, Hardware}
 use Rattle.rv_core.proofs.Words.{AreBelow, Queue, IsSound, hardware_of, IsDescribedCache, IsSoundHardware, AreTied}
 use Rattle.rv_core.proofs.Words.{queue_of, Inside}
@@ -15,16 +16,7 @@ pub sound_with_cache : {h : Hardware} {cache : Contents Memory} {committed : Lis
     IsDescribedCache h.values cache → AreRetired h.values committed →
     AreBelow (λ (s : QueuedStore). s.seq) h.rob.retired committed →
     port ≤ 2 ^ 43 → IsSoundHardware (with_cache cache committed port h)
-sound_with_cache sound described retired older free = record {
-  legal = sound.legal;
-  cycles = sound.cycles;
-  port = free;
-  registers = sound.registers;
-  cache = described;
-  entries = sound.entries;
-  stores = record { each = retired; older = older };
-  fetched = sound.fetched;
-}
+sound_with_cache sound described retired older free = grind arith
 
 -- the parts with this cache, this queue and this port
 abbrev pub with_parts : Contents Memory → Queue → ℕ → Inside → Inside
@@ -38,12 +30,7 @@ module _ {parts : Inside} {cache : Contents Memory} {committed : List QueuedStor
   next = with_cache cache committed port (hardware_of parts)
 
   tied : AreTied next parts.rename parts.stations parts.bus stores
-  tied = record {
-    renamed = before.tied.renamed;
-    stationed = before.tied.stationed;
-    pending = before.tied.pending;
-    queued = is;
-  }
+  tied = grind arith
 
   -- the parts stand for the hardware so changed
   pub view_with_cache : hardware_of (with_parts cache stores port parts)

@@ -12,9 +12,7 @@ module _ {S : Type 0} (turn : S → Turn S) (final : S) where
   pub turned-goes : (left rest : ℕ) (s new : S) → left ≡ rest + 1 → repeated turn left s ≡ final → turn s ≡ GoesOn new →
       repeated turn rest new ≡ final
   turned-goes zero rest s new more to goes = absurd (omega arith)
-  turned-goes (suc n) rest s new more to goes =
-      let same : rest ≡ n = omega (arith, more) in
-      ap (λ k. repeated turn k new) same ∙ sym (ap (followed_by (repeated turn n)) goes) ∙ to
+  turned-goes (suc n) rest s new more to goes = grind arith
 
 -- a phase whose first turn ends it and changes nothing
 pub turned-none : {S : Type 0} (turn : S → Turn S) (width : ℕ) (s : S) → Ends s ≡ turn s → s ≡ repeated turn width s

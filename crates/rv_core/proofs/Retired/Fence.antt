@@ -1,7 +1,7 @@
 -- FENCE.I at the head: it waits for the retired stores and the port, then for the write-back, and retires.
-use Rattle.rv_core.proofs.Words.{◌≡◌, ℕ, ◌<◌, ne_eqb, Bool, true, false, List, [], ◌∷◌, ◌++◌, nat_le, ◌==◌, Some}
-use Rattle.rv_core.proofs.Words.{AllPairs, sym, refl, ap, ◌∙◌, subst, true≢false, append-nil, arith, is_serialising}
-use Rattle.rv_core.proofs.Words.{FenceI, Store as QueuedStore, Entry, execute_head, fence_instructions, is_drained}
+use Rattle.rv_core.proofs.Words.{◌≡◌, ℕ, Bool, true, false, List, [], ◌∷◌, ◌++◌, nat_le, ◌==◌, Some, AllPairs, sym}
+use Rattle.rv_core.proofs.Words.{refl, ap, ◌∙◌, subst, true≢false, append-nil, arith, is_serialising, FenceI}
+use Rattle.rv_core.proofs.Words.{Store as QueuedStore, Entry, execute_head, fence_instructions, is_drained}
 use Rattle.rv_core.proofs.Words.{with_write_back, write_back_time, Hardware, stores_of, Step, committing}
 use Rattle.rv_core.proofs.Words.{IsSoundHardware, queue_of}
 
@@ -55,17 +55,6 @@ fence_waits_for_stores h e steps some = rw (not_with_stores h h.committed some) 
 pub fence_waits_for_port : (h : Hardware) (e : Entry) (steps : List Step) → nat_le h.port_free h.cycle ≡ false →
     fence_instructions e (committing h steps) ≡ committing h steps
 fence_waits_for_port h e steps busy = rw (not_while_busy h h.committed busy) refl
-
--- FENCE.I waits while the cache is written back
-pub fence_waits_for_cache : (h : Hardware) (e : Entry) (steps : List Step) → h.committed ≡ [] →
-    nat_le h.port_free h.cycle ≡ true →
-    (write_back_time h == 0) ≡ false →
-    fence_instructions e (committing h steps) ≡ committing (with_write_back h) steps
-fence_waits_for_cache h e steps none idle lasts = rw (when_empty h h.committed none idle, lasts) refl
-
--- which is so where it takes some time
-pub takes_time : (h : Hardware) (time : ℕ) → time ≡ write_back_time h → 0 < time → (write_back_time h == 0) ≡ false
-takes_time h time is some = ne_eqb (write_back_time h) 0 (λ none. absurd (omega (arith, is, some, none)))
 
 -- FENCE.I retires where there are none
 pub fence_retires : (h : Hardware) (e : Entry) (steps : List Step) → h.committed ≡ [] →

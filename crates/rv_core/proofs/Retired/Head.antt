@@ -117,17 +117,9 @@ renamed_from : (capacity seq : ℕ) (target : Option ℕ) (is_jump : Bool) (es :
       checkpoints = if is_early then checkpoints_of [] (seq + 1) es else [];
     }
 renamed_from capacity seq None is_jump es false = refl
-renamed_from capacity seq None is_jump es true =
-    ap (λ cs. record { capacity = capacity; producers = producers_of (seq + 1) es; checkpoints = cs })
-    (noted_goes seq [] (checkpoints_of [] (seq + 1) es) (younger_stay seq [] (seq + 1) es (omega arith)) is_jump)
-renamed_from capacity seq (Some r) is_jump es false =
-    ap (λ ps. record { capacity = capacity; producers = ps; checkpoints = [] })
-    (oldest_goes r seq (producers_of (seq + 1) es))
-renamed_from capacity seq (Some r) is_jump es true = λ i. record {
-  capacity = capacity;
-  producers = oldest_goes r seq (producers_of (seq + 1) es) i;
-  checkpoints = without_head r seq es is_jump i;
-}
+renamed_from capacity seq None is_jump es true = grind (arith, younger_stay)
+renamed_from capacity seq (Some r) is_jump es false = grind arith
+renamed_from capacity seq (Some r) is_jump es true = grind (arith, without_head)
 
 pub renamed_after_head : (values : Values) (capacity seq : ℕ) (e : Entry) (es : List Entry) →
     without_checkpoint seq (without_target seq (target_of_word e.instruction)

@@ -1,9 +1,8 @@
 -- What the turns of the commit phase have taken, with what is still to come, is the definition's commit phase.
-use Rattle.rv_core.proofs.Words.{◌≡◌, ℕ, ◌+◌, ◌*◌, ◌<◌, ◌≤◌, List, [], ◌++◌, length, Some, None, Option, sym, refl, ap}
+use Rattle.rv_core.proofs.Words.{◌≡◌, ℕ, ◌+◌, ◌<◌, ◌≤◌, List, [], ◌++◌, length, Some, None, Option, sym, refl, ap}
 use Rattle.rv_core.proofs.Words.{subst, ◌∙◌, append-nil, arith, length-append, due, Committing, commit, commit_turn}
 use Rattle.rv_core.proofs.Words.{commit_unless, Hardware, Ends, repeated, Step, IsKept, and_step, committing, turn_left}
 use Rattle.rv_core.proofs.Words.{HeadTurn}
-use Rattle.std.proofs.Common.{Fits, rules, w32}
 use Rattle.std.specs.FinSet as set
 use Rattle.rv_core.specs.HeadTurn.{step_taken}
 use Rattle.rv_core.specs.Steps.{HasRoom, Takes}
@@ -99,14 +98,6 @@ committed_all start h old new done left before none =
 -- before a further turn of a width of eight at most, one more instruction can be counted, and one more step has room
 module _ {start h : Hardware} {old new : Steps} {done left : ℕ} (before : AreCommitted start h old new done left)
     (few : done < 8) where
-  -- fewer instructions than eight for each cycle, this one included, have retired so far
-  pub few_retired : start.rob.retired ≤ 8 * start.cycle → h.rob.retired < 8 * h.cycle + 8
-  few_retired numbers = omega (arith, before.retired, before.cycle, numbers, few)
-
   -- room for eight steps before the phase leaves room for one now
   pub has_room : HasRoom old 8 → HasRoom new 1
   has_room enough = room_left before.taken enough (omega (arith, before.few, few))
-
--- the cause of an interrupt is a word
-pub interrupt_fits : (code : ℕ) → code ≤ 11 → Fits w32 (2147483648 + code)
-interrupt_fits code at_most = search rules

@@ -1,20 +1,17 @@
 -- The turn that a head has by its role is the definition's, and keeps what no turn changes.
-use Rattle.rv_core.proofs.Words.{◌≡◌, ℕ, ◌+◌, ◌≤◌, arith, Guide, IsKept, IsTurn, false, true, Stale, Stop, Message}
-use Rattle.rv_core.proofs.Words.{stop_after, turn_ended, turn_left, flushed, with_result, eq-eqb, ne_eqb, ◌≢◌, row_of}
-use Rattle.rv_core.proofs.Words.{List, [], ◌∷◌, slice_get, Some, None, Option, nat_cmp, refl, ap, ◌∙◌, is_serialising}
-use Rattle.rv_core.proofs.Words.{Instr, word_of, Entry, Committing, commit_turn, commit_turn_of, execute_head}
-use Rattle.rv_core.proofs.Words.{finish_broadcast, head_turn, Hardware, broadcast_of, Ends, Step, IsHead, committing}
-use Rattle.rv_core.proofs.Words.{instruction_of_access, role_of, CsrAccess as Access, WaitsForResult}
+use Rattle.rv_core.proofs.Words.{◌≡◌, arith, Guide, IsKept, IsTurn, false, true, Stop, Message, stop_after}
+use Rattle.rv_core.proofs.Words.{turn_ended, turn_left, flushed, with_result, eq-eqb, ne_eqb, ◌≢◌, row_of, List, []}
+use Rattle.rv_core.proofs.Words.{◌∷◌, slice_get, Some, None, Option, nat_cmp, refl, ap, ◌∙◌, is_serialising, Instr}
+use Rattle.rv_core.proofs.Words.{word_of, Entry, Committing, commit_turn, commit_turn_of, finish_broadcast, head_turn}
+use Rattle.rv_core.proofs.Words.{Hardware, broadcast_of, Ends, Step, IsHead, committing, role_of, WaitsForResult}
 use Rattle.std.specs.FinSet as set
 use Rattle.rv_core.specs.declared.steps.Steps.{Steps}
 use Rattle.rv_core.proofs.Taken.{takes_none}
 use Rattle.rv_isa.specs.declared.causes.Fault.{Fault}
 use Rattle.rv_hardware.specs.Commit.{finish_head, with_fault}
 use Rattle.rv_hardware.specs.Retirement.{written_of}
-use Rattle.rv_rob.specs.ReorderBuffer.{ReorderBuffer, after_head, head_retired}
-use Rattle.rv_hardware.specs.Squash.{with_trap}
+use Rattle.rv_rob.specs.ReorderBuffer.{ReorderBuffer}
 use Rattle.rv_core.specs.declared.head.HeadTurn.TheVariants as head
-use Rattle.rv_core.specs.declared.head.Role.TheVariants.{CsrAccess}
 
 first_of : (entries : List Entry) (e : Entry) → slice_get entries 0 ≡ Some e →
     (younger : List Entry) × (entries ≡ e ∷ younger)
@@ -37,15 +34,6 @@ pub ends_with_none : (h : Hardware) (steps : List Step) → slice_get h.rob.entr
     commit_turn set.contains (committing h steps) ≡ Ends (committing h steps)
 ends_with_none h steps none = ap (λ l. commit_turn_of set.contains l (committing h steps)) (none_of h.rob.entries none)
 
--- with nothing in flight the turn ends the phase, takes no step and changes nothing
-pub turn_of_none : (h : Hardware) (steps : Steps) (known : Guide) → slice_get h.rob.entries 0 ≡ None →
-    IsTurn h h steps steps known known (head.Ends None)
-turn_of_none h steps known none = turn_ends h steps known None (λ before. ends_with_none h before none)
-
-retires_one : (r : ReorderBuffer) (entries : List Entry) → (after_head r entries).retired ≤ r.retired + 1
-retires_one r [] = omega arith
-retires_one r (e ∷ entries) = omega arith
-
 -- what no turn changes, by what the turn leaves
 pub kept : (h : Hardware) → IsKept h h
 kept h = record { values = refl; cycle = refl; retired = omega arith }
@@ -54,28 +42,6 @@ kept h = record { values = refl; cycle = refl; retired = omega arith }
 pub kept_as : (h next : Hardware) → next.values ≡ h.values → next.cycle ≡ h.cycle → next.rob ≡ h.rob → IsKept h next
 kept_as h next values cycle rob =
     record { values = values; cycle = cycle; retired = omega (arith, ap (λ (r : ReorderBuffer). r.retired) rob) }
-
--- two changes that keep it, the first of which leaves the reorder buffer as it is, keep it together
-pub kept_from : (h now next : Hardware) → IsKept h now → now.rob ≡ h.rob → IsKept now next → IsKept h next
-kept_from h now next before rob after = grind arith
-
--- a serialising head that retires, with a pc and registers, and flushes everything keeps it
-pub kept_serialising : (h next : Hardware) (pc : ℕ) (registers : List ℕ) →
-    next ≡ flushed (record h { pc = pc; registers = registers; rob = head_retired h.rob }) → IsKept h next
-kept_serialising h next pc registers is =
-    rw is (record { values = refl; cycle = refl; retired = retires_one h.rob h.rob.entries })
-
--- a trap keeps it
-pub kept_trapped : (h next : Hardware) (cause value : ℕ) → next ≡ with_trap cause value h → IsKept h next
-kept_trapped h next cause value is = rw is (record { values = refl; cycle = refl; retired = omega arith })
-
--- a result that retires keeps it
-pub kept_retired : (h next : Hardware) (e : Entry) (m : Message) → next ≡ with_result e m h → IsKept h next
-kept_retired h next e m is = rw is (record { values = refl; cycle = refl; retired = retires_one h.rob h.rob.entries })
-
--- a result that retires and flushes everything younger keeps it
-pub kept_flushed : (h next : Hardware) (e : Entry) (m : Message) → next ≡ flushed (with_result e m h) → IsKept h next
-kept_flushed h next e m is = rw is (record { values = refl; cycle = refl; retired = retires_one h.rob h.rob.entries })
 
 -- the first entry is the head
 pub first_is_head : (h : Hardware) (e : Entry) → slice_get h.rob.entries 0 ≡ Some e → IsHead h e
@@ -90,13 +56,6 @@ turn_of_head h e steps head fresh = grind arith
 -- there is one head
 pub heads_agree : (h : Hardware) (a b : Entry) → IsHead h a → IsHead h b → a ≡ b
 heads_agree h a b first second = grind arith
-
--- where the head is stale, the run stops
-pub turn_of_stale : (h : Hardware) (e : Entry) (steps : List Step) → IsHead h e →
-    set.contains {R = nat_cmp} h.stale (word_of e.pc) ≡ true →
-    commit_turn set.contains (committing h steps)
-    ≡ Ends (record { hardware = h; steps = steps; stop = Some (Stale e.pc) })
-turn_of_stale h e steps head stale = grind arith
 
 -- a head that does not serialise finishes by its result
 pub turn_not_serialising : (e : Entry) (instruction : Option Instr) (c : Committing) →
@@ -141,9 +100,3 @@ ended_as h steps step = grind arith
 pub serialising_waits_not : (instruction : Option Instr) → role_of instruction ≡ WaitsForResult →
     is_serialising instruction ≡ true → ⊥
 serialising_waits_not instruction is serial = grind arith
-
--- a head that accesses a CSR executes, which ends the phase
-pub turn_accesses : (e : Entry) (instruction : Option Instr) (access : Access) (c : Committing) →
-    role_of instruction ≡ CsrAccess access →
-    head_turn e instruction c ≡ Ends (execute_head e (instruction_of_access access) c)
-turn_accesses e instruction access c is = grind arith

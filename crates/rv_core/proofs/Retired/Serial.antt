@@ -1,8 +1,7 @@
 -- The hardware of which a serialising head has left is sound, and so it is with other CSRs and stale words.
 use Rattle.rv_core.proofs.Words.{◌≡◌, ℕ, ◌+◌, ◌*◌, ◌<◌, List, ◌∷◌, length, Option, ap, ◌∙◌, arith, length-set}
 use Rattle.rv_core.proofs.Words.{Store as QueuedStore, ReorderBuffer, head_retired, Entry, Hardware, AreBelow-weaken}
-use Rattle.rv_core.proofs.Words.{registers_with, IsSoundHardware, IsSound, IsKept, StaleWords, Inside, hardware_of}
-use Rattle.rv_arch.specs.Csr.{Kept}
+use Rattle.rv_core.proofs.Words.{registers_with, IsSoundHardware}
 use Rattle.rv_core.proofs.Retired.Head.{buffer_after}
 use Rattle.rv_core.proofs.Retired.Sound.{entries_after_head}
 
@@ -30,13 +29,3 @@ sound_after_serial h e es pc written sound entries room = record {
   };
   fetched = sound.fetched;
 }
-
--- CSRs and stale words bear on nothing in flight
-pub sound_apart : (p : Inside) (csrs : Kept) (stale : StaleWords) → IsSound p → stale.base ≡ p.stale.base →
-    stale.size ≡ p.stale.size → IsSound (record p { csrs = csrs; stale = stale })
-sound_apart p csrs stale before base size = grind arith
-
--- nor on what no turn changes
-pub kept_apart : (p : Inside) (csrs : Kept) (stale : StaleWords) (h next : Hardware) → hardware_of p ≡ h →
-    IsKept (hardware_of (record p { csrs = csrs; stale = stale })) next → IsKept h next
-kept_apart p csrs stale h next is kept = grind arith

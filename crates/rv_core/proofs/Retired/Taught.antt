@@ -1,9 +1,10 @@
 -- What the commit phase teaches the predictor, turn by turn, is what its steps' lessons teach.
-use Rattle.rv_core.proofs.Words.{◌≡◌, ℕ, List, [], ◌∷◌, ◌++◌, None, Option, sym, refl, ap, ◌∙◌, subst, append_assoc}
-use Rattle.rv_core.proofs.Words.{append-nil, Lines, due, State, Committing, commit_turn, commit_with, execute}
-use Rattle.rv_core.proofs.Words.{with_lines, Hardware, GoesOn, Turn, Reachable, seen, pc_of, Leads as LeavesEither}
-use Rattle.rv_core.proofs.Words.{fold, AreTaught, after_lesson, Guide, first_pc, lesson_of, lessons_of, Step, and_step}
-use Rattle.rv_core.proofs.Words.{committing, lessons_left, turn_left, IsBegun, HeadTurn, Some}
+use Rattle.std.proofs.Common.{arith}
+use Rattle.rv_core.proofs.Words.{◌≡◌, ℕ, List, [], ◌∷◌, ◌++◌, None, Option, sym, refl, ap, ◌∙◌, subst, append-nil}
+use Rattle.rv_core.proofs.Words.{Lines, due, State, Committing, commit_turn, commit_with, execute, with_lines, Hardware}
+use Rattle.rv_core.proofs.Words.{GoesOn, Turn, Reachable, seen, pc_of, Leads as LeavesEither, AreTaught, Guide}
+use Rattle.rv_core.proofs.Words.{lesson_of, lessons_of, Step, and_step, committing, lessons_left, turn_left, IsBegun}
+use Rattle.rv_core.proofs.Words.{HeadTurn, Some}
 use Rattle.std.specs.FinSet as set
 use Rattle.std.proofs.lemmas.List.Sums.{fold-append}
 use Rattle.rv_hardware.proofs.Headline.Commit.{IsDone, IsGoing, begins_going, commit_done, turn_done}
@@ -13,18 +14,11 @@ use Rattle.rv_hardware.proofs.Headline.Turn.{GoesFrom, turn_goes_from}
 use Rattle.rv_arch.specs.declared.outcome.Stop.{Stop}
 use Rattle.rv_core.specs.declared.head.HeadTurn.TheVariants as head
 
-first_of_more : (steps : List Step) (s : Step) (next : ℕ) → first_pc (steps ++ s ∷ []) next ≡ first_pc steps (pc_of s)
-first_of_more [] s next = refl
-first_of_more (x ∷ steps) s next = refl
-
 -- the lessons of one step more: those before it went on at it
 lessons_push : (steps : List Step) (s : Step) (next : ℕ) →
     lessons_of (steps ++ s ∷ []) next ≡ lessons_of steps (pc_of s) ++ lesson_of s next
 lessons_push [] s next = append-nil (lesson_of s next)
-lessons_push (x ∷ steps) s next =
-    ap (λ pc. lesson_of x pc ++ lessons_of (steps ++ s ∷ []) next) (first_of_more steps s next)
-    ∙ ap (λ l. lesson_of x (first_pc steps (pc_of s)) ++ l) (lessons_push steps s next)
-    ∙ sym (append_assoc (lesson_of x (first_pc steps (pc_of s))) (lessons_of steps (pc_of s)) (lesson_of s next))
+lessons_push (x ∷ steps) s next = grind (arith, lessons_push steps s next)
 
 -- no lessons teach nothing
 pub none_taught : (old : Guide) → AreTaught old [] old
@@ -34,12 +28,7 @@ none_taught old = refl
 taught_more : (old now new : Guide) (steps : List Step) (s : Step) (pc next : ℕ) →
     AreTaught old (lessons_of steps pc) now → pc_of s ≡ pc →
     AreTaught now (lesson_of s next) new → AreTaught old (lessons_of (steps ++ s ∷ []) next) new
-taught_more old now new steps s pc next so_far here more =
-    let more_lessons : lessons_of steps pc ++ lesson_of s next ≡ lessons_of (steps ++ s ∷ []) next =
-    ap (λ at. lessons_of steps at ++ lesson_of s next) (sym here) ∙ sym (lessons_push steps s next) in
-    more ∙ ap (λ p. fold after_lesson p (lesson_of s next)) so_far
-    ∙ sym (fold-append after_lesson old (lessons_of steps pc) (lesson_of s next))
-    ∙ ap (fold after_lesson old) more_lessons
+taught_more old now new steps s pc next so_far here more = grind (arith, lessons_push, fold-append)
 
 -- the phase while it goes on, and what the predictor has been taught of its steps
 pub record AreTeaching (start h : Hardware) (steps : List Step) (old now : Guide) : Type 0 where
@@ -49,12 +38,6 @@ pub record AreTeaching (start h : Hardware) (steps : List Step) (old now : Guide
 sound_begun : (h : Hardware) → IsBegun h → IsSound h
 sound_begun h begun = subst IsSound (sym begun.begun)
     (lines_sound begun.lines begun.before (always_sound begun.reached))
-
--- after the last turn
-pub taught_all : (start h : Hardware) (steps : List Step) (old now : Guide) →
-    AreTeaching start h steps old now → (all : List Step) → steps ≡ all → AreTaught old (lessons_of all h.pc) now
-taught_all start h steps old now so_far all is_all =
-    subst (λ l. AreTaught old (lessons_of l h.pc) now) is_all so_far.taught
 
 -- before the first turn
 pub teaching_begins : (h : Hardware) (now : Guide) → IsBegun h → due h.csrs h.lines ≡ None →
@@ -74,9 +57,7 @@ taught_on : (old now new : Guide) (c d : Committing) (step : Option Step) → Go
     d.steps ≡ and_step c.steps step → AreTaught old (lessons_of c.steps c.hardware.pc) now →
     AreTaught now (lessons_left step d.hardware.pc) new →
     AreTaught old (lessons_of (and_step c.steps step) d.hardware.pc) new
-taught_on old now new c d None goes same so_far more =
-    subst (λ p. AreTaught old (lessons_of c.steps d.hardware.pc) p) (sym more)
-    (subst (λ pc. AreTaught old (lessons_of c.steps pc) now) (sym (goes.stays same)) so_far)
+taught_on old now new c d None goes same so_far more = grind arith
 taught_on old now new c d (Some s) goes same so_far more =
     taught_more old now new c.steps s c.hardware.pc d.hardware.pc so_far (goes.begins s same) more
 
@@ -130,6 +111,4 @@ executed_here lines old committed reached is =
 -- lessons of the same steps, to the same pc
 pub taught_as : (old new : Guide) (steps done : List Step) (pc next : ℕ) → steps ≡ done → pc ≡ next →
     AreTaught old (lessons_of steps pc) new → AreTaught old (lessons_of done next) new
-taught_as old new steps done pc next same here taught =
-    subst (λ l. AreTaught old (lessons_of l next) new) same
-    (subst (λ n. AreTaught old (lessons_of steps n) new) here taught)
+taught_as old new steps done pc next same here taught = grind arith

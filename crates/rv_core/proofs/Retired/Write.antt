@@ -1,9 +1,8 @@
 -- What a head that retires writes is legal: its target lies in the registers, and its store in RAM.
-use Rattle.rv_core.proofs.Words.{◌≡◌, ℕ, Bool, List, ◌∷◌, IfSome, Some, None, All, Option, option_map, subst, arith}
-use Rattle.rv_core.proofs.Words.{ne_eqb, All-head, is_store, Message, StoreAccess, Fault, Values, Entry, Stage}
-use Rattle.rv_core.proofs.Words.{Hardware, broadcast_of, with_value, IsTrue, StaleWords, is_covered, registers_with}
-use Rattle.rv_core.proofs.Words.{IsLegalAccess, IsLegalWrite, IsSoundEntry, IsSoundHardware, message_of}
-use Rattle.rv_core.proofs.Retired.Head.{IsTarget}
+use Rattle.rv_core.proofs.Words.{◌≡◌, Bool, List, ◌∷◌, IfSome, Some, None, All, Option, subst, arith, All-head}
+use Rattle.rv_core.proofs.Words.{is_store, Message, StoreAccess, Fault, Values, Entry, Stage, Hardware, broadcast_of}
+use Rattle.rv_core.proofs.Words.{IsTrue, StaleWords, is_covered, IsLegalAccess, IsLegalWrite, IsSoundEntry}
+use Rattle.rv_core.proofs.Words.{IsSoundHardware, message_of}
 
 known_message : (stage : Stage) (m : Message) → broadcast_of stage ≡ Some m → message_of stage ≡ Some m
 known_message stage m known = grind arith
@@ -31,9 +30,3 @@ pub write_is_covered : (values : Values) (stale : StaleWords) (is_store : Bool) 
     stale.base ≡ values.ram_base → stale.size ≡ values.ram_size →
     IfSome written (λ a. IsTrue (is_covered stale a.address))
 write_is_covered values stale writes written legal base size = grind (arith, access_is_covered)
-
--- the registers with a target's value
-pub target_written : (registers : List ℕ) (target : Option ℕ) (m : Message) → IsTarget registers target →
-    registers_with (option_map (λ (register : ℕ). (register, m.value)) target) registers
-    ≡ with_value registers target (Some m)
-target_written registers target m ok = grind (arith, ne_eqb)

@@ -1,15 +1,14 @@
 -- A dispatch keeps the ties of the parts and the soundness of the hardware.
-use Rattle.rv_core.proofs.Words.{◌≡◌, ℕ, suc, ◌-◌, ◌<◌, Bool, false, cond, ◌&&◌, List, [], ◌∷◌, ◌++◌, length, IfSome}
-use Rattle.rv_core.proofs.Words.{nat_le, slice_get, Some, None, All, Option, AllPairs, sym, refl, ap, ◌∙◌, arith}
-use Rattle.rv_core.proofs.Words.{length-append, leb-false, All-cons, list_any, is_branch_or_jump, is_serialising}
-use Rattle.rv_core.proofs.Words.{is_store, kind_of_word, target_of_word, Instr, Lines, Kind, PerKind, Values, Layout}
-use Rattle.rv_core.proofs.Words.{State, pushed, Entry, Finished, Fetched, mends_early, entry_of_fetched}
-use Rattle.rv_core.proofs.Words.{has_full_stations, reason_of, stage_by, Hardware, result_of_word, layout_of}
-use Rattle.rv_core.proofs.Words.{state_after, stores_after, or-false, All-push, all_pairs_push, at_kind-by_kind, Queue}
-use Rattle.rv_core.proofs.Words.{Pool, Pending, Renaming, next_number, are_full_for, with_instruction, with_jump}
-use Rattle.rv_core.proofs.Words.{with_store, with_target, IsDecoded, IsLegalWrite, IsSoundEntry, IsSoundHardware}
-use Rattle.rv_core.proofs.Words.{message_of, AreTied, stations_of, status_after, values_in}
-use Rattle.rv_hardware.specs.declared.report.Stall.TheVariants as stall
+use Rattle.rv_core.proofs.Words.{◌≡◌, ℕ, suc, ◌-◌, ◌<◌, Bool, false, ◌&&◌, List, [], ◌∷◌, ◌++◌, length, IfSome, nat_le}
+use Rattle.rv_core.proofs.Words.{slice_get, Some, None, All, Option, AllPairs, sym, refl, ap, ◌∙◌, arith, length-append}
+use Rattle.rv_core.proofs.Words.{leb-false, All-cons, list_any, is_branch_or_jump, is_serialising, is_store}
+use Rattle.rv_core.proofs.Words.{kind_of_word, target_of_word, Instr, Lines, Kind, PerKind, Values, Layout, State}
+use Rattle.rv_core.proofs.Words.{pushed, Entry, Finished, Fetched, mends_early, entry_of_fetched, has_full_stations}
+use Rattle.rv_core.proofs.Words.{reason_of, stage_by, Hardware, result_of_word, layout_of, state_after, stores_after}
+use Rattle.rv_core.proofs.Words.{or-false, All-push, all_pairs_push, at_kind-by_kind, Queue, Pool, Pending, Renaming}
+use Rattle.rv_core.proofs.Words.{next_number, are_full_for, with_instruction, with_jump, with_store, with_target}
+use Rattle.rv_core.proofs.Words.{IsDecoded, IsLegalWrite, IsSoundEntry, IsSoundHardware, message_of, AreTied}
+use Rattle.rv_core.proofs.Words.{stations_of, status_after, values_in}
 use Rattle.rv_rob.specs.ReorderBuffer.{youngest}
 use Rattle.rv_core.proofs.Phases.InFlight.{sound_in_flight}
 use Rattle.rv_core.proofs.Ties.Bus.{bus-push}
@@ -54,16 +53,6 @@ serial-youngest (e ∷ d ∷ es) last =
 pub full-is : (h : Hardware) (o : Option Kind) → are_full_for o (stations_of h.values h.registers h.rob)
     ≡ has_full_stations h o
 full-is h o = grind (arith, at_kind-by_kind, waiting-count)
-
--- the reason, of the four tests
-pub reason-is : (h : Hardware) (fetched : Fetched) (serial room station queue : Bool) →
-    list_any (λ e. is_serialising e.instruction) h.rob.entries ≡ serial →
-    nat_le h.rob.capacity (length h.rob.entries) ≡ room
-    → has_full_stations h (kind_of_word fetched.instruction) ≡ station →
-    (is_store fetched.instruction && nat_le h.values.store_queue (length (stores_after h h.rob.entries))) ≡ queue
-    → reason_of h fetched ≡ cond serial (Some stall.Serial)
-    (cond room (Some stall.Rob) (cond station (Some stall.Station) (cond queue (Some stall.Store) None)))
-reason-is h fetched serial room station queue serial_is room_is station_is queue_is = grind arith
 
 -- ---- the entry
 first-legal : (values : Values) (layout : Layout) (s : State) (lines : Lines) (cycle : ℕ)

@@ -78,11 +78,7 @@ module _ (R : Entry → Entry → Type 0) where
 
   -- what holds of each pair holds of those that a cut leaves
   pub pairs-entries_below : (n s : ℕ) (es : List Entry) → AllPairs R es → AllPairs R (entries_below n s es)
-  pairs-entries_below n s es pairs =
-      rw (entries_below-take (n - s) n s es refl) (λ i j d lt within.
-      let size = length-take (n - s) es in
-      rw (get_or-take (n - s) es i d (omega arith), get_or-take (n - s) es j d (omega arith))
-      (pairs i j d lt (omega arith)))
+  pairs-entries_below n s es pairs = grind (arith, entries_below-take, length-take, get_or-take)
 
   -- and of those with a changed entry, where the change keeps it
   pub pairs-with_entry : (f : Entry → Entry) → ((d e : Entry) → R d e → R (f d) e) →

@@ -132,10 +132,6 @@ pub renaming-push : (values : Values) (rob : ReorderBuffer) (e : Entry) →
     (with_target (next_number rob) (target_of_word e.instruction) (renaming_of values rob))
 renaming-push values rob e = grind (arith, producers-push, checkpoints-push, with_jump-is, with_target-is)
 
--- none of none
-pub no_checkpoints : (early : Bool) → (let none : List Checkpoint = [] in cond early none none) ≡ []
-no_checkpoints early = grind arith
-
 checkpoints_below-early : (early : Bool) (n : ℕ) (cs : List Checkpoint) → AreBelow (λ (c : Checkpoint). c.seq) n cs →
     AreBelow (λ (c : Checkpoint). c.seq) n (cond early cs [])
 checkpoints_below-early early n cs are = grind arith

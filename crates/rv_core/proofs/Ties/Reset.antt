@@ -1,5 +1,4 @@
 -- At reset memory holds the image, and zeros after it, and the parts with nothing in flight are sound.
-use Rattle.std.proofs.Common.{rules}
 use Rattle.std.proofs.lemmas.List.{length-replicate}
 use Rattle.rv_core.proofs.Words.{◌≡◌, ℕ, ◌+◌, ◌-◌, ◌≤◌, sym, refl, ◌∙◌, subst, Bool, true, false, if◌then◌else◌, []}
 use Rattle.rv_core.proofs.Words.{List, ◌++◌, IsLegal, Values, Hardware, reset_hardware, mends_early, for_each, empty}
@@ -17,30 +16,7 @@ image_over_zeros size image = grind (arith, drop-replicate)
 -- the hardware at reset is sound
 sound-at_reset : (values : Values) (image : List ℕ) (start : ℕ) → IsLegal values → length image ≤ values.ram_size →
     IsSoundHardware (reset_hardware values image start)
-sound-at_reset values image start legal fits = record {
-  legal = legal;
-  cycles = omega arith;
-  port = omega arith;
-  registers = refl;
-  cache = record {
-    base = refl;
-    values = refl;
-    bytes =
-        length-append image (replicate (values.ram_size - length image) 0)
-        ∙ ap (λ n. length image + n) (length-replicate (values.ram_size - length image) 0)
-        ∙ omega (arith, fits);
-    layout = refl;
-  };
-  entries = record {
-    capacity = refl;
-    within = omega arith;
-    numbers = omega arith;
-    each = search rules;
-    serial = search rules;
-  };
-  stores = record { each = search rules; older = search rules };
-  fetched = search rules;
-}
+sound-at_reset values image start legal fits = grind (arith, length-append, length-replicate)
 
 no_checkpoint : (early : Bool) →
     empty 0 ≡ record { capacity = 0; producers = []; checkpoints = if early then [] else [] }

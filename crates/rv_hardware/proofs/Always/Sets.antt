@@ -1,11 +1,10 @@
 -- The cache holds no more lines than it has room for, so its write-back has a longest time.
-use Rattle.rv_hardware.proofs.Words.{◌≡◌, ℕ, ◌*◌, ◌%◌, ◌≤◌, Bool, true, false, cond, List, [], ◌∷◌, map, length, refl}
-use Rattle.rv_hardware.proofs.Words.{arith, length-set, mul-le-mul_right, length-map, length-replicate, CacheValues}
-use Rattle.rv_hardware.proofs.Words.{Values, Memory, Contents, accessed_sets, line_of, set_of, cleaned, dirty_count}
-use Rattle.rv_hardware.proofs.Words.{dirty_total, Each, CacheLine, write_back_time, Hardware, reset_hardware}
+use Rattle.rv_hardware.proofs.Words.{◌≡◌, ℕ, ◌*◌, ◌≤◌, Bool, true, false, cond, List, [], ◌∷◌, map, length, refl, arith}
+use Rattle.rv_hardware.proofs.Words.{length-set, mul-le-mul_right, length-map, length-replicate, CacheValues, Values}
+use Rattle.rv_hardware.proofs.Words.{Memory, Contents, accessed_sets, cleaned, dirty_count, dirty_total, Each}
+use Rattle.rv_hardware.proofs.Words.{CacheLine, write_back_time, Hardware, reset_hardware}
 use Rattle.rv_cache.proofs.Replacement.{length-accessed}
 use Rattle.rv_cache.proofs.Sets.{Each-at, Each-map, Each-replicate, Each-set}
-use Rattle.rv_cache.specs.Replacement.{accessed}
 use Rattle.rv_hardware.proofs.Turns.Cited.{IsKept, phases-kept, IsKeptByChanges, cache_written, store_drains}
 use Rattle.rv_hardware.proofs.Turns.Cited.{load_accesses, longest_write_back}
 
@@ -25,15 +24,7 @@ empty_fits ways = omega arith
 -- an access leaves no more lines in a set than there is room for
 pub accessed-fit : (cache : Contents Memory) (address : ℕ) (writes : Bool) → FitIn cache.values cache.sets →
     FitIn cache.values (accessed_sets cache address writes)
-accessed-fit cache address writes fits =
-    let number : ℕ = line_of cache address in
-    let room = Each-at (Fits cache.values.ways) cache.sets (number % cache.values.sets) []
-    (empty_fits cache.values.ways) fits.1 in
-    let lines : List CacheLine = accessed cache.values.ways number writes (set_of cache number) in (
-      omega (arith, length-set cache.sets (number % cache.values.sets) lines, fits.0),
-      Each-set (Fits cache.values.ways) cache.sets (number % cache.values.sets) lines
-          (length-accessed cache.values.ways number (set_of cache number) writes room) fits.1,
-    )
+accessed-fit cache address writes fits = grind (arith, Each-at, length-set, Each-set, length-accessed)
 
 cleaned_fits : (ways : ℕ) (lines : List CacheLine) → Fits ways lines → Fits ways (map cleaned lines)
 cleaned_fits ways lines fits = omega (arith, length-map lines cleaned)

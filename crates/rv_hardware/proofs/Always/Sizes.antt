@@ -1,9 +1,8 @@
 -- The sizes of the hardware are the described ones.
 use Rattle.rv_hardware.proofs.Words.{◌≡◌, ℕ, List, at_kind-for_each, with_kind-each, IsLegal, at_kind, with_kind, Kind}
-use Rattle.rv_hardware.proofs.Words.{PerKind, CacheValues, Values, Pool, FetchBuffer, Hardware, reset_hardware, ◌+◌}
-use Rattle.rv_hardware.proofs.Words.{any_prediction, arith}
+use Rattle.rv_hardware.proofs.Words.{PerKind, CacheValues, Values, Pool, Hardware, reset_hardware, arith}
 use Rattle.rv_units.specs.Pool.{started as started_unit}
-use Rattle.rv_hardware.proofs.Turns.Cited.{IsKept, phases-kept, IsKeptByChanges, one_starts, fetch_phase}
+use Rattle.rv_hardware.proofs.Turns.Cited.{IsKept, IsKeptByChanges, one_starts}
 
 -- the description is legal, and its values, the cache's, and the rooms and units that they give, are the hardware's
 pub record AreSizes (v given : Values) (lines : CacheValues) (entries words most : ℕ)
@@ -25,11 +24,6 @@ HasShape v h = AreSizes v h.values h.cache.values h.rob.capacity h.front.capacit
 abbrev pub HasSizes : Hardware → Type 0
 HasSizes h = HasShape h.values h
 
--- another front with the same room and width leaves it so
-pub with_front : (v : Values) (h : Hardware) (front : FetchBuffer) (cycle : ℕ) → front.capacity ≡ h.front.capacity →
-    front.width ≡ h.front.width → HasShape v h → HasShape v (record h { front = front; cycle = cycle })
-with_front v h front cycle room width shape = grind arith
-
 -- of the description that the hardware's own stands for
 module _ (described : Values → Values) where
   abbrev IsSized : Hardware → Type 0
@@ -44,12 +38,7 @@ module _ (described : Values → Values) where
   changes h _ _ shape = shape
 
   kept : IsKept IsSized
-  kept = record {
-    phases = phases-kept changes;
-    fetch = λ ram cycle h front stop shape fetches.
-        let same = fetch_phase any_prediction ram cycle h.front front stop fetches in
-        with_front (described h.values) h front (h.cycle + 1) same.capacity same.width shape;
-  }
+  kept = grind arith
 
 -- every cycle keeps the shape of a description
 pub shape-kept : (v : Values) → IsKept (HasShape v)

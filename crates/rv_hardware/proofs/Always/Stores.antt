@@ -1,6 +1,6 @@
 -- There are no more stores, retired or in flight, than the queue holds.
 use Rattle.rv_hardware.proofs.Words.{◌≡◌, ℕ, ◌+◌, ◌≤◌, Bool, false, cond, ◌&&◌, List, [], ◌∷◌, ◌++◌, map, length}
-use Rattle.rv_hardware.proofs.Words.{is_some, nat_le, Some, None, Option, refl, ap, ◌∙◌, subst, arith, length-append}
+use Rattle.rv_hardware.proofs.Words.{is_some, nat_le, Some, None, Option, refl, ap, subst, arith, length-append}
 use Rattle.rv_hardware.proofs.Words.{leb-false, is_store, Message, StoreAccess, Instr, Values, with_oldest_draining}
 use Rattle.rv_hardware.proofs.Words.{without_drained, Store, finished, predicting, started, Entry, Fetched}
 use Rattle.rv_hardware.proofs.Words.{entry_of_fetched, Hardware, broadcast_of, stores_of, reset_hardware}
@@ -77,9 +77,7 @@ same_count older younger old new same = ap store_count (map-change instruction_o
 count_of : (older younger : List Entry) →
     store_count (instructions_of (older ++ younger)) ≡
     store_count (instructions_of older) + store_count (instructions_of younger)
-count_of older younger =
-    ap store_count (instructions-append older younger) ∙
-    store_count-append (instructions_of older) (instructions_of younger)
+count_of older younger = grind (arith, instructions-append, store_count-append)
 
 fits_one_more : (is_one : Bool) (count limit : ℕ) → (is_one && nat_le limit count) ≡ false → count ≤ limit →
     count + cond is_one 1 0 ≤ limit

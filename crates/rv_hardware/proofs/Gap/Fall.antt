@@ -6,8 +6,7 @@ use Rattle.rv_hardware.proofs.Words.{FetchBuffer, FetchesInto, FetchStop, Commit
 use Rattle.rv_hardware.proofs.Words.{execute, with_lines, Dispatching, drain, Hardware, broadcast_of, Report}
 use Rattle.rv_hardware.proofs.Words.{CacheValues}
 use Rattle.std.specs.FinSet as set
-use Rattle.rv_hardware.proofs.Marks.Cited.{commit-keeps, same-kept, IsShaped, alone, AreSerialLast, IsBounded}
-use Rattle.rv_hardware.proofs.Marks.Cited.{sound-cycle, instructions_of}
+use Rattle.rv_hardware.proofs.Marks.Cited.{commit-keeps, same-kept, IsShaped, alone, IsBounded, sound-cycle}
 use Rattle.rv_hardware.proofs.Gap.Drained.{Drains, drains}
 use Rattle.rv_hardware.proofs.Gap.Execute.{execute-same, later, plain-head}
 use Rattle.rv_hardware.proofs.Gap.FallEmpty.{fall_empty}
@@ -15,7 +14,7 @@ use Rattle.rv_hardware.proofs.Gap.FallFence.{fall_fence_waits, fall_write_back}
 use Rattle.rv_hardware.proofs.Gap.FallRunning.{RunsUntil, fall_running}
 use Rattle.rv_hardware.proofs.Gap.FallWaiting.{fall_waiting}
 use Rattle.rv_hardware.proofs.Gap.Head.{HeadIs, Waits}
-use Rattle.rv_hardware.proofs.Gap.Patience.{dirty_time, patience, port_time, stage_time, flight_time, head_time}
+use Rattle.rv_hardware.proofs.Gap.Patience.{dirty_time, patience, port_time, stage_time}
 use Rattle.rv_hardware.proofs.Gap.Silent.{SilentAt, SilentFence, SilentHead, silent_commit}
 
 module _ (lines : Lines) (old : Hardware) (sound : IsBounded old) where
@@ -84,11 +83,7 @@ module _ (lines : Lines) (old : Hardware) (sound : IsBounded old) where
         omega (arith, time, fall_write_back h front e one is idle dirty next.ending))
 
     fence_falls : (after : Hardware) → e.instruction ≡ Some FenceI → SilentFence h after → Falls after
-    fence_falls after is silent =
-        let none = alone e es (subst (λ l. AreSerialLast (instructions_of l)) split sound.last)
-        (ap is_serialising is) in
-        by_silence after (split ∙ ap (λ l. e ∷ l) none) is
-        (ap (flight_time h) split ∙ ap (λ i. head_time h i e.stage) is) silent
+    fence_falls after is silent = grind (arith, alone, by_silence)
 
     head_falls : (after : Hardware) (instruction : Option Instr) → e.instruction ≡ instruction →
         SilentHead instruction e.stage h after → Falls after

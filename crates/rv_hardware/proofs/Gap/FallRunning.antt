@@ -1,16 +1,15 @@
 -- Where the oldest instruction executes, a cycle brings its end nearer.
 use Rattle.rv_hardware.proofs.Words.{◌≡◌, ℕ, suc, ◌+◌, ◌-◌, ◌<◌, ◌≤◌, true, false, not, List, [], ◌∷◌, ◌++◌, is_none}
 use Rattle.rv_hardware.proofs.Words.{Option, sym, refl, ap, subst, inl, inr, true≢false, arith, le-leb, cases_lt}
-use Rattle.rv_hardware.proofs.Words.{is_serialising, Message, Instr, Issue, Kind, Values, finished, predicting, started}
-use Rattle.rv_hardware.proofs.Words.{Entry, Stage, Finished, Running, FetchBuffer, broadcast, broadcast_turn}
-use Rattle.rv_hardware.proofs.Words.{has_result, result_at, execute, drain, Hardware, is_waiting, issue, Turn, repeated}
-use Rattle.rv_hardware.proofs.Words.{EveryAfter, Leaves, left_by_the_rest, kept_by_turns}
+use Rattle.rv_hardware.proofs.Words.{is_serialising, Message, Instr, Issue, Kind, Values, started, Entry, Stage}
+use Rattle.rv_hardware.proofs.Words.{Finished, Running, FetchBuffer, broadcast, broadcast_turn, has_result, result_at}
+use Rattle.rv_hardware.proofs.Words.{execute, drain, Hardware, is_waiting, issue, Turn, repeated, EveryAfter, Leaves}
+use Rattle.rv_hardware.proofs.Words.{left_by_the_rest, kept_by_turns}
 use Rattle.rv_hardware.proofs.Marks.Cited.{BroadcastTurn, HasRun, no_result, sends, mends, broadcast_turn_is}
-use Rattle.rv_hardware.proofs.Marks.Cited.{IsMadeByBroadcast, sends-makes, mends-makes, drain-same, IsKeptByIssue}
-use Rattle.rv_hardware.proofs.Marks.Cited.{issue-keeps, AreEnding, longest_execution}
+use Rattle.rv_hardware.proofs.Marks.Cited.{drain-same, IsKeptByIssue, issue-keeps, AreEnding, longest_execution}
 use Rattle.rv_hardware.proofs.Gap.Execute.{execute-same, head-dispatched, head-turn, issued-same, later, plain-patience}
 use Rattle.rv_hardware.proofs.Gap.Execute.{head-executed}
-use Rattle.rv_hardware.proofs.Gap.Head.{HeadIs, head-change, head-cut}
+use Rattle.rv_hardware.proofs.Gap.Head.{HeadIs, head-change}
 use Rattle.rv_hardware.proofs.Gap.Patience.{patience, stage_time}
 
 -- it executes until a cycle
@@ -56,13 +55,7 @@ module _ (h : Hardware) (front : FetchBuffer) (instruction : Option Instr) (end 
 
   -- ---- it goes on
   still_runs : h.cycle < end → HeadIs instruction (RunsUntil end) (execute h).hardware.rob.entries
-  still_runs late =
-      let closed : (stage : Stage) (message : Message) (start : Option Issue) → HasRun h.cycle stage message →
-      RunsUntil end stage → RunsUntil end (Finished start h.cycle message) =
-      λ stage message start gives runs.
-      let ends : gives.issue.cycle + gives.issue.cost ≡ end = subst (RunsUntil end) gives.runs runs in
-      absurd (omega (arith, ends, gives.over, late)) in
-      head-executed instruction h closed runs_issued
+  still_runs late = grind (arith, head-executed, runs_issued)
 
   left : (g : Hardware) (stage : Stage) → RunsUntil end stage → stage_time g instruction stage ≤ 1 + (end - g.cycle)
   left g stage runs = grind arith
@@ -74,19 +67,6 @@ module _ (h : Hardware) (front : FetchBuffer) (instruction : Option Instr) (end 
   over_closed : (stage : Stage) (message : Message) (start : Option Issue) → HasRun h.cycle stage message →
       IsOver stage → IsOver (Finished start h.cycle message)
   over_closed stage message start gives over = tt
-
-  made_over : IsMadeByBroadcast (λ g older e. (older ≡ []) × (e.instruction ≡ instruction) × (g.cycle ≡ h.cycle)) Over
-  made_over = record {
-    broadcasts = λ g older younger e message is split gives. (
-      subst (λ o. HeadIs instruction IsOver (o ++ finished message g.cycle e ∷ younger)) (sym is.0) (is.1, tt),
-      is.2,
-    );
-    mends = λ g older younger e next over split. (
-      head-cut instruction IsOver older younger e (predicting next e) refl refl
-          (subst (HeadIs instruction IsOver) split over.0),
-      over.1,
-    );
-  }
 
   abbrev NoneDue : List Entry → Type 0
   NoneDue = EveryAfter (λ before e. has_result issued.cycle before e ≡ false) []
@@ -102,14 +82,8 @@ module _ (h : Hardware) (front : FetchBuffer) (instruction : Option Instr) (end 
 
   first_result : end ≤ h.cycle → {t : Turn Hardware} → BroadcastTurn issued t → Leaves Over t
   first_result due (no_result none) = absurd (one_is_due due issued.rob.entries runs_issued none)
-  first_result due (sends older younger e issue message sent late) =
-      let first = it_is_first due older younger e
-      (subst (HeadIs instruction (RunsUntil end)) sent.place runs_issued) sent.oldest_one in
-      sends-makes made_over sent (first.0, first.1, number)
-  first_result due (mends older younger e issue message sent early) =
-      let first = it_is_first due older younger e
-      (subst (HeadIs instruction (RunsUntil end)) sent.place runs_issued) sent.oldest_one in
-      mends-makes made_over sent (first.0, first.1, number)
+  first_result due (sends older younger e issue message sent late) = grind (arith, it_is_first, runs_issued, number)
+  first_result due (mends older younger e issue message sent early) = grind (arith, it_is_first, runs_issued, number)
 
   is_over : end ≤ h.cycle → 1 ≤ issued.values.bus_width → HeadIs instruction IsOver (execute h).hardware.rob.entries
   is_over due wide =

@@ -1,10 +1,10 @@
 -- A byte after stores is that of the youngest which covers it, else memory's.
-use Rattle.rv_hardware.proofs.Words.{◌≡◌, ℕ, ◌+◌, ◌<◌, ◌-◌, ◌≤◌, List, [], ◌∷◌, length, nat_le, slice_get}
-use Rattle.rv_hardware.proofs.Words.{slice_index_or as get_or, Some, None, Option, unwrap_or, sym, refl, ap, ◌∙◌, inl}
-use Rattle.rv_hardware.proofs.Words.{inr, arith, le-leb, cases_lt, cond-false, cond-true, option_or, StoreAccess}
-use Rattle.rv_hardware.proofs.Words.{overwritten, Layout, get_or-overwritten_above, get_or-overwritten_below}
-use Rattle.rv_hardware.proofs.Words.{get_or-overwritten_in, Each, youngest_byte, byte_of_state, written_at}
-use Rattle.rv_hardware.proofs.Words.{Store as QueuedStore, StoreState, Filled, bytes_after, with_store}
+use Rattle.rv_hardware.proofs.Words.{◌≡◌, ℕ, ◌+◌, ◌<◌, ◌-◌, ◌≤◌, List, [], ◌∷◌, length, slice_get}
+use Rattle.rv_hardware.proofs.Words.{slice_index_or as get_or, Some, None, Option, unwrap_or, refl, arith, cond-false}
+use Rattle.rv_hardware.proofs.Words.{option_or, StoreAccess, overwritten, Layout, get_or-overwritten_above}
+use Rattle.rv_hardware.proofs.Words.{get_or-overwritten_below, get_or-overwritten_in, Each, youngest_byte}
+use Rattle.rv_hardware.proofs.Words.{byte_of_state, written_at, Store as QueuedStore, StoreState, Filled, bytes_after}
+use Rattle.rv_hardware.proofs.Words.{with_store}
 use Rattle.std.proofs.lemmas.Option.{slice_get-get_or, slice_get_past}
 use Rattle.rv_hardware.proofs.Headline.Retires.{IsStoreAccess}
 use Rattle.rv_hardware.proofs.Headline.Words.{length-stored}
@@ -37,31 +37,16 @@ module _ (layout : Layout) where
     fits = omega (arith, legal.above, legal.below)
 
     covered : at ≤ i → i < at + length access.bytes → written_at place access ≡ Some (get_or access.bytes (i - at) 0)
-    covered from here =
-        let same : place - access.address ≡ i - at = omega (arith, legal.above) in
-        cond-true (nat_le access.address place) found None (le-leb access.address place (omega (arith, legal.above)))
-        ∙ ap (slice_get access.bytes) same
-        ∙ slice_get-get_or access.bytes (i - at) 0 (omega arith)
+    covered from here = grind (arith, slice_get-get_or)
 
     before : i < at → written_at place access ≡ None
     before below = grind (arith, cond-false)
 
     after : at + length access.bytes ≤ i → written_at place access ≡ None
-    after above =
-        cond-true (nat_le access.address place) found None (le-leb access.address place (omega (arith, legal.above)))
-        ∙ slice_get_past access.bytes (place - access.address) (omega (arith, legal.above))
+    after above = grind (arith, slice_get_past)
 
     one_after : get_or (overwritten xs at access.bytes) i 0 ≡ unwrap_or (written_at place access) (get_or xs i 0)
-    one_after = elim (cases_lt i at) [
-      | inl below ↦ get_or-overwritten_below xs access.bytes at fits i below ∙
-          sym (ap (λ (o : Option ℕ). unwrap_or o (get_or xs i 0)) (before below))
-      | inr from ↦ elim (cases_lt i (at + length access.bytes)) [
-        | inl here ↦ get_or-overwritten_in xs access.bytes at fits i from here ∙
-            sym (ap (λ (o : Option ℕ). unwrap_or o (get_or xs i 0)) (covered from here))
-        | inr above ↦ get_or-overwritten_above xs access.bytes at fits i above ∙
-            sym (ap (λ (o : Option ℕ). unwrap_or o (get_or xs i 0)) (after above))
-      ]
-    ]
+    one_after = grind (arith, get_or-overwritten_below, get_or-overwritten_in, covered, get_or-overwritten_above, after)
 
   -- after one store
   byte_after_one : (state : StoreState) (xs : List ℕ) (i : ℕ) → IsStateInside layout state → length xs ≡ layout.size →

@@ -17,17 +17,7 @@ module _ {values : Values} {cycle : ℕ} {s : State} {h : Hardware} (is : IsSoun
   pub with_other_memory : (new : Hardware) → new.values ≡ h.values → new.cycle ≡ h.cycle → new.pc ≡ h.pc →
       new.csrs ≡ h.csrs → new.rob ≡ h.rob → new.front ≡ h.front → seen new ≡ seen h →
       HoldsMemory new.values new.stale new.cache new.committed → IsSoundAt values cycle s new
-  with_other_memory new same_values same_cycle same_pc same_csrs same_rob same_front same_seen memory = record {
-    values_are = same_values ∙ is.values_are;
-    cycle_is = same_cycle ∙ is.cycle_is;
-    sees = same_seen ∙ is.sees;
-    sound = record {
-      pc_aligned = rw same_pc is.sound.pc_aligned;
-      mepc_aligned = rw same_csrs is.sound.mepc_aligned;
-      memory = memory;
-      program = rw (same_seen, same_values, same_rob, same_front) is.sound.program;
-    };
-  }
+  with_other_memory new same_values same_cycle same_pc same_csrs same_rob same_front same_seen memory = grind arith
 
 module _ (values : Values) (cycle : ℕ) (state : State) (h : Hardware) where
   abbrev with_stores : List QueuedStore → Hardware

@@ -151,9 +151,7 @@ module _ (h : Hardware) (e : Entry) (message : Message) where
 
   -- a retirement with a result makes of the state what the machine's step makes of it
   pub seen_result : HoldsMemory h.values h.stale h.cache h.committed → seen (with_result e message h) ≡ next_state
-  seen_result was =
-      ap (λ (ram : List ℕ). record next_state { ram = ram })
-      (ram_stored h.values h.stale h.cache h.committed was h.rob.retired message.store)
+  seen_result was = grind (arith, ram_stored)
 
   -- where the program goes on as predicted, so do the younger instructions
   module _ (is : IsSound h) (es : List Entry) (entries : h.rob.entries ≡ e ∷ es)

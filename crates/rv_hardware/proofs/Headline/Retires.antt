@@ -15,7 +15,6 @@ use Rattle.rv_arch.specs.Effect.{writes}
 pub record IsStoreAccess (layout : Layout) (access : StoreAccess) : Type 0 where
   pub above : layout.base ≤ access.address
   pub below : access.address + length access.bytes ≤ layout.base + layout.size
-  pub one_word : access.address % 4 + length access.bytes ≤ 4
   pub some : 1 ≤ length access.bytes
   pub aligned : IsAligned access.address (length access.bytes)
   pub writable : is_writable layout access.address (length access.bytes) ≡ true

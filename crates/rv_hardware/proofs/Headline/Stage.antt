@@ -1,6 +1,5 @@
 -- A new stage of an instruction in flight leaves all else as it is, where it holds the result.
-use Rattle.rv_hardware.proofs.Words.{◌≡◌, ◌%◌, List, [], ◌∷◌, ◌++◌, sym, ◌∙◌, Layout, State, Entry, Stage, FetchBuffer}
-use Rattle.rv_hardware.proofs.Words.{arith}
+use Rattle.rv_hardware.proofs.Words.{◌≡◌, ◌%◌, List, [], ◌∷◌, ◌++◌, Layout, State, Entry, Stage, FetchBuffer, arith}
 use Rattle.rv_hardware.proofs.Headline.Fold.{result_at, executed, after_entries, IsResult, IsInFlight, AreInFlight}
 use Rattle.rv_hardware.proofs.Headline.Invariant.{FollowsProgram}
 use Rattle.rv_hardware.proofs.Headline.Split.{after_entries-append, AreInFlight-older, AreInFlight-younger}
@@ -17,9 +16,7 @@ module _ (layout : Layout) (s : State) where
     pub after_entries-staged : (stage : Stage) →
         after_entries layout (older ++ record e { stage = stage } ∷ younger) s ≡
         after_entries layout (older ++ e ∷ younger) s
-    after_entries-staged stage =
-        after_entries-append layout older (record e { stage = stage } ∷ younger) s ∙
-        sym (after_entries-append layout older (e ∷ younger) s)
+    after_entries-staged stage = grind (arith, after_entries-append)
 
     -- an instruction among those in flight follows the program at its place
     pub here_in_flight : AreInFlight layout s s (older ++ e ∷ younger) →

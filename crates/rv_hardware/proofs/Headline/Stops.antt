@@ -11,9 +11,7 @@ use Rattle.rv_hardware.proofs.Headline.Run.{TrueCycles, none, one_more, cycles_t
 
 steps_of-append : (xs ys : List Report) → steps_of (xs ++ ys) ≡ steps_of xs ++ steps_of ys
 steps_of-append [] ys = refl
-steps_of-append (x ∷ xs) ys =
-    ap (λ (rest : List Step). x.steps ++ rest) (steps_of-append xs ys) ∙
-    sym (append_assoc x.steps (steps_of xs) (steps_of ys))
+steps_of-append (x ∷ xs) ys = grind (arith, append_assoc, steps_of-append xs ys)
 
 -- no step is a breakpoint
 abbrev HasNone : List Step → Type 0
@@ -139,18 +137,7 @@ module _ (layout : Layout) (arrivals : List Arrival) where
 
       at_stale : (pc : ℕ) → last.stop ≡ Some (stop.Stale pc) →
           IsTrueStop layout arrivals limit n m (steps_of reports) u (stop.Stale pc)
-      at_stale pc stops =
-          grind (
-            arith,
-            quiet_cycle,
-            ending,
-            steps_are,
-            HasNone-append,
-            before_none,
-            false≢true,
-            ends_nowhere,
-            counts_cycles,
-          )
+      at_stale pc stops = grind (arith, ending, steps_are, HasNone-append, before_none, ends_nowhere, counts_cycles)
 
     pub true_stop : (reason : Stop) (new : Hardware) → new.cycle ≡ m → IsStop limit reports new reason →
         IsTrueStop layout arrivals limit n m (steps_of reports) u reason

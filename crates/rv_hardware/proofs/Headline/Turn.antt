@@ -1,10 +1,8 @@
 -- A step that a turn of the commit phase takes begins at the committed pc.
-use Rattle.rv_hardware.proofs.Words.{◌≡◌, List, [], ◌∷◌, ◌++◌, length, Some, sym, refl, ap, ◌∙◌, subst, arith}
-use Rattle.rv_hardware.proofs.Words.{length-append, append_cancel_left, Entry, Committing, commit_turn, Turn, layout_of}
-use Rattle.rv_hardware.proofs.Words.{seen, pc_of, Step, Leads}
+use Rattle.rv_hardware.proofs.Words.{◌≡◌, List, [], ◌∷◌, ◌++◌, length, Some, sym, refl, ap, ◌∙◌, arith, length-append}
+use Rattle.rv_hardware.proofs.Words.{append_cancel_left, Entry, Committing, commit_turn, Turn, pc_of, Step, Leads}
 use Rattle.std.specs.FinSet as set
 use Rattle.rv_arch.specs.declared.outcome.Stop.TheVariants as stop
-use Rattle.rv_hardware.proofs.Headline.Fold.{AreInFlight}
 use Rattle.rv_hardware.proofs.Headline.Invariant.{IsSound}
 use Rattle.rv_hardware.proofs.Turns.Commit.{CommitTurn, commit_turn_is, written_back, stale_head, fence_writes}
 use Rattle.rv_hardware.proofs.Turns.Commit.{fence_retires, executes, serial_faults, traps, retires, retires_last}
@@ -31,9 +29,7 @@ one_step c d x is here = record {
 
 module _ (c : Committing) (is : IsSound c.hardware) where
   here : (e : Entry) (es : List Entry) → c.hardware.rob.entries ≡ e ∷ es → e.pc ≡ c.hardware.pc
-  here e es place =
-      (subst (AreInFlight (layout_of c.hardware.values) (seen c.hardware) (seen c.hardware)) place
-      is.program.in_flight).0.pc
+  here e es place = grind arith
 
   by_turn : {t : Turn Committing} → CommitTurn set.contains c t → Leads (GoesFrom c) (GoesFrom c) t
   by_turn (stale_head e es at stale) = no_step c (record c { stop = Some (stop.Stale e.pc) }) refl refl

@@ -76,13 +76,7 @@ module _ {layout : Layout} {access : StoreAccess} (legal : IsStoreAccess layout 
   -- the bytes of other words stay
   pub stored_elsewhere : (i : ℕ) → word_of (layout.base + i) ≢ word_of access.address →
       get_or (overwritten xs at access.bytes) i 0 ≡ get_or xs i 0
-  stored_elsewhere i other = elim (cases_lt i at) [
-    | inl below ↦ get_or-overwritten_below xs access.bytes at fits i below
-    | inr from ↦ elim (cases_lt i (at + length access.bytes)) [
-      | inr above ↦ get_or-overwritten_above xs access.bytes at fits i above
-      | inl here ↦ absurd (other (omega (arith, legal.above, legal.one_word)))
-    ]
-  ]
+  stored_elsewhere i other = grind (arith, get_or-overwritten_below, get_or-overwritten_above)
 
   -- to store the same again changes nothing
   pub stored_again : overwritten (overwritten xs at access.bytes) at access.bytes ≡ overwritten xs at access.bytes

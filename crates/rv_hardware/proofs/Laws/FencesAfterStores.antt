@@ -1,17 +1,16 @@
 -- A FENCE.I retires after the accesses of all older stores.
 use Rattle.rv_hardware.proofs.Words.{◌≡◌, ℕ, ◌+◌, ◌≤◌, Bool, true, false, cond, List, [], ◌∷◌, ◌++◌, filter, Option}
-use Rattle.rv_hardware.proofs.Words.{Some, None, AllPairs, nat_cmp, sym, refl, ap, ◌∙◌, subst, true≢false}
-use Rattle.rv_hardware.proofs.Words.{append-nil, arith, is_serialising, is_fence_i, Instr, Values, Each, Lines, due}
-use Rattle.rv_hardware.proofs.Words.{interrupt_cause, Entry, Committing, commit_unless, with_lines, Hardware}
-use Rattle.rv_hardware.proofs.Words.{written_of, Turn, GoesOn, Ends, Report, FencesAfterStore, is_store_row}
-use Rattle.rv_hardware.proofs.Words.{is_fence_i_row, rows_of, Row, Step, Interrupt, Retired, Trap, Each-all, each_then}
-use Rattle.rv_hardware.proofs.Words.{EveryPair, EveryPair-append, AllPairs-EveryPair, Leaves}
+use Rattle.rv_hardware.proofs.Words.{Some, None, AllPairs, nat_cmp, sym, refl, subst, true≢false, append-nil, arith}
+use Rattle.rv_hardware.proofs.Words.{is_serialising, is_fence_i, Instr, Values, Each, Lines, due, interrupt_cause}
+use Rattle.rv_hardware.proofs.Words.{Entry, Committing, commit_unless, with_lines, Hardware, written_of, Turn, GoesOn}
+use Rattle.rv_hardware.proofs.Words.{Ends, Report, FencesAfterStore, is_store_row, rows_of, Row, Step, Interrupt}
+use Rattle.rv_hardware.proofs.Words.{Retired, Trap, Each-all, each_then, EveryPair, EveryPair-append}
+use Rattle.rv_hardware.proofs.Words.{AllPairs-EveryPair, Leaves}
 use Rattle.std.specs.FinSet as set
 use Rattle.rv_hardware.proofs.Marks.Cited.{CommitTurn, drained_none, fence_retires, executes, serial_faults, traps}
 use Rattle.rv_hardware.proofs.Marks.Cited.{retires, retires_last, History, began, went_on, begin, anything_is_kept}
 use Rattle.rv_hardware.proofs.Marks.Cited.{Passed, history_is_legal, history_passes, InCommit, commit_turns_keep}
-use Rattle.rv_hardware.proofs.Marks.Cited.{row_at, row_decodes, retiring_is_one, MayRetire}
-use Rattle.rv_hardware.proofs.Marks.Cited.{may_retire_serial, may_retire_finished, Mark}
+use Rattle.rv_hardware.proofs.Marks.Cited.{row_at, MayRetire, may_retire_serial, may_retire_finished, Mark}
 use Rattle.rv_hardware.proofs.Laws.StoreQueue.{Queue, pushed, commit_queue, queue_of_history}
 use Rattle.rv_hardware.proofs.Laws.StoreQueue.Queue.{AreQueued, QueueOk}
 
@@ -35,9 +34,7 @@ all_gone hit port gone (row ∷ kept) queued = absurd queued
 
 stores_over : {hit now : ℕ} {rows : List Row} {port : ℕ} → QueueOk hit now rows port [] →
     Each (λ a. is_store_row a ≡ true → a.retired + hit ≤ now) rows
-stores_over {hit} {now} {rows} {port} ok =
-    each_by_test is_store_row (λ a. a.retired + hit ≤ now) rows
-    (subst (Each (λ a. a.retired + hit ≤ now)) (sym (ok.split ∙ all_gone hit port ok.gone ok.kept ok.queued)) ok.over)
+stores_over {hit} {now} {rows} {port} ok = grind (arith, each_by_test, all_gone)
 
 -- ---- the commit phase
 
@@ -57,29 +54,19 @@ module _ (v : Values) (now : ℕ) (earlier : List Step) (is_stale : set.FinSet n
   -- a step without a row
   no_row : (c : Committing) (s : Step) → rows_of (s ∷ []) ≡ [] → Fenced (earlier ++ c.steps) →
       Fenced (earlier ++ (c.steps ++ s ∷ []))
-  no_row c s none fenced =
-      subst (EveryPair (FencesAfterStore v.cache.hit))
-      (sym (pushed v now earlier is_stale c s ∙ ap (λ l. rows_of (earlier ++ c.steps) ++ l) none ∙
-      append-nil (rows_of (earlier ++ c.steps)))) fenced
+  no_row c s none fenced = grind (arith, pushed, append-nil)
 
   one_row : (c : Committing) (row : Row) →
       Each (λ a. FencesAfterStore v.cache.hit a row) (rows_of (earlier ++ c.steps)) → Fenced (earlier ++ c.steps) →
       Fenced (earlier ++ (c.steps ++ Retired row ∷ []))
-  one_row c row after fenced =
-      subst (EveryPair (FencesAfterStore v.cache.hit)) (sym (pushed v now earlier is_stale c (Retired row)))
-      (EveryPair-append (FencesAfterStore v.cache.hit) (rows_of (earlier ++ c.steps)) (row ∷ []) fenced (tt, tt)
-      (each_then (λ a h. (h, tt)) (rows_of (earlier ++ c.steps)) after))
+  one_row c row after fenced = grind (arith, pushed, EveryPair-append, each_then)
 
   -- one that is no FENCE.I
   other_row : (c : Committing) (e : Entry) (es : List Entry) (written : Option (ℕ × ℕ)) →
       c.hardware.rob.entries ≡ e ∷ es → MayRetire e.instruction e.stage → is_fence_i e.instruction ≡ false →
       InCommit v now earlier is_stale c → Fenced (earlier ++ c.steps) →
       Fenced (earlier ++ (c.steps ++ Retired (row_at e written c.hardware.cycle) ∷ []))
-  other_row c e es written place may other p fenced =
-      let row : Row = row_at e written c.hardware.cycle in
-      let is : is_fence_i_row row ≡ is_fence_i e.instruction = grind (arith, row_decodes, retiring_is_one) in
-      one_row c row
-      (Each-all _ (λ a store fence. absurd (true≢false (sym fence ∙ is ∙ other))) (rows_of (earlier ++ c.steps))) fenced
+  other_row c e es written place may other p fenced = grind (arith, one_row, Each-all)
 
   plain_is_other : (i : Option Instr) → is_serialising i ≡ false → is_fence_i i ≡ false
   plain_is_other i plain = grind arith

@@ -2,18 +2,16 @@
 use Rattle.rv_hardware.proofs.Words.{◌≡◌, ℕ, suc, ◌+◌, ◌<◌, Bool, true, false, List, [], ◌∷◌, ◌++◌, map, ◌==◌, Some}
 use Rattle.rv_hardware.proofs.Words.{None, Option, MatchOption, nat_cmp, sym, refl, ap, ◌∙◌, subst, append_assoc}
 use Rattle.rv_hardware.proofs.Words.{append-nil, arith, eqb-true, pc_plus_4, Lines, Kind, Values, Memory, due}
-use Rattle.rv_hardware.proofs.Words.{interrupt_cause, Each, predicting, Entry, Answers, FetchBuffer, Fetches, stop_for}
-use Rattle.rv_hardware.proofs.Words.{FetchStop, Fetched, broadcast, Committing, commit_turn, commit_unless, IsCycle}
-use Rattle.rv_hardware.proofs.Words.{any_prediction, execute, with_lines, Dispatching, entry_of_fetched, drain}
-use Rattle.rv_hardware.proofs.Words.{Hardware, issue, IsNextWord, Turn, Report, written_of, EachNext, rows_of, Row}
-use Rattle.rv_hardware.proofs.Words.{Step, Interrupt, Retired, Trap, each_then, Each-append, Each-left, map-change}
-use Rattle.rv_hardware.proofs.Words.{Beginning, Leaves, kept_by_turns}
+use Rattle.rv_hardware.proofs.Words.{interrupt_cause, Each, Entry, Answers, Fetches, stop_for, FetchStop, Fetched}
+use Rattle.rv_hardware.proofs.Words.{broadcast, Committing, commit_turn, commit_unless, IsCycle, any_prediction}
+use Rattle.rv_hardware.proofs.Words.{execute, with_lines, Dispatching, drain, Hardware, issue, IsNextWord, Turn, Report}
+use Rattle.rv_hardware.proofs.Words.{written_of, EachNext, rows_of, Row, Step, Interrupt, Retired, Trap, each_then}
+use Rattle.rv_hardware.proofs.Words.{Each-append, Each-left, map-change, Beginning, Leaves, kept_by_turns}
 use Rattle.std.specs.FinSet as set
 use Rattle.rv_hardware.proofs.Marks.Cited.{IsKeptByBroadcast, broadcast-keeps, IsKeptByDispatch, dispatch-keeps}
-use Rattle.rv_hardware.proofs.Marks.Cited.{IsKeptByDrain, drain-keeps, IsKeptByIssue, issue-keeps, fetch-cases}
-use Rattle.rv_hardware.proofs.Marks.Cited.{CommitTurn, commit_turn_is, fence_retires, executes, serial_faults, traps}
-use Rattle.rv_hardware.proofs.Marks.Cited.{retires, retires_last, head_retired_entries, History, began, went_on}
-use Rattle.rv_hardware.proofs.Marks.Cited.{rows_append, row_at}
+use Rattle.rv_hardware.proofs.Marks.Cited.{IsKeptByDrain, drain-keeps, IsKeptByIssue, issue-keeps, CommitTurn}
+use Rattle.rv_hardware.proofs.Marks.Cited.{commit_turn_is, fence_retires, executes, serial_faults, traps, retires}
+use Rattle.rv_hardware.proofs.Marks.Cited.{retires_last, History, began, went_on, rows_append, row_at}
 use Rattle.rv_hardware.proofs.Laws.NoIdleFetch.Next.{EveryNext}
 
 -- where a word stands, and the cycle in which it was fetched
@@ -122,14 +120,7 @@ fetches_straight answers ram cycle width room pc (f ∷ fs) next stop h = absurd
 -- the words of a cycle come after those of earlier ones
 more_are_next : (now pc : ℕ) (ps qs : List Place) → AreStraight now pc qs → AreNext now ps →
     AreNext (now + 1) (ps ++ qs)
-more_are_next now pc ps qs straight h =
-    let these = straight_now now pc qs straight in (
-      next_append IsNext (λ p. p.fetched < now) (λ q. q.fetched ≡ now)
-          (λ p q lt at same. absurd (omega (arith, lt, at, same))) ps qs h.1 these h.0
-          (straight_next now pc qs straight),
-      Each-append (λ p. p.fetched < now + 1) ps qs (each_then (λ p lt. omega (arith, lt)) ps h.1)
-          (each_then (λ q at. omega (arith, at)) qs these),
-    )
+more_are_next now pc ps qs straight h = grind (arith, straight_now, next_append, straight_next, Each-append, each_then)
 
 later_are_next : (now : ℕ) (ps : List Place) → AreNext now ps → AreNext (now + 1) ps
 later_are_next now ps h = (h.0, each_then (λ p lt. omega (arith, lt)) ps h.1)
@@ -174,9 +165,7 @@ module _ (now : ℕ) (rows : List Place) where
   one_changes : (h : Hardware) (older younger : List Entry) (e x : Entry) → h.rob.entries ≡ older ++ e ∷ younger →
       place_of_entry x ≡ place_of_entry e → Placed h →
       AreNext now (rows ++ in_flight (older ++ x ∷ younger) h.front.entries)
-  one_changes h older younger e x split same p =
-      subst (λ l. AreNext now (rows ++ l))
-      (ap (λ es. in_flight es h.front.entries) split ∙ same_places older younger e x h.front.entries same) p
+  one_changes h older younger e x split same p = grind (arith, same_places)
 
   one_mended : (h : Hardware) (older younger : List Entry) (e x : Entry) → h.rob.entries ≡ older ++ e ∷ younger →
       place_of_entry x ≡ place_of_entry e → Placed h → AreNext now (rows ++ in_flight (older ++ x ∷ []) [])
@@ -191,25 +180,13 @@ module _ (now : ℕ) (rows : List Place) where
   drain_placed = record { leaves = λ h p idle. p; drains = λ h access p idle is. p }
 
   issue_placed : (k : Kind) → IsKeptByIssue Placed k
-  issue_placed k = record {
-    accesses = λ h older younger e address p split ready by. p;
-    starts = λ h older younger e cost message p split waits of_kind result costs.
-        one_changes h older younger e _ split refl p;
-  }
+  issue_placed k = grind (arith, one_changes)
 
   broadcast_placed : IsKeptByBroadcast Placed
-  broadcast_placed = record {
-    broadcasts = λ h older younger e message p split run. one_changes h older younger e _ split refl p;
-    mends = λ h older younger e next p split. one_mended h older younger e (predicting next e) split refl p;
-  }
+  broadcast_placed = grind (arith, one_changes, one_mended)
 
   dispatch_placed : IsKeptByDispatch Placed
-  dispatch_placed = record {
-    dispatches = λ h f fs p first none.
-        subst (λ l. AreNext now (rows ++ l))
-        (ap (λ l. in_flight h.rob.entries l) first ∙
-        places_dispatched h.rob.entries (entry_of_fetched h f) f fs refl) p;
-  }
+  dispatch_placed = grind (arith, places_dispatched)
 
   execute_placed : (h : Hardware) → Placed h → Placed (execute h).hardware
   execute_placed h p =
@@ -227,13 +204,7 @@ module _ (now : ℕ) (earlier : List Step) (is_stale : set.FinSet nat_cmp → �
       c.hardware.rob.entries ≡ e ∷ es → Committed c →
       AreNext now (row_places (earlier ++ (c.steps ++ Retired (row_at e written c.hardware.cycle) ∷ [])) ++
       in_flight es c.hardware.front.entries)
-  with_row c e es written place p =
-      let row : Row = row_at e written c.hardware.cycle in
-      let steps : List Step = earlier ++ c.steps in
-      let rest : List Place = in_flight es c.hardware.front.entries in
-      subst (AreNext now)
-      (ap (λ l. row_places steps ++ in_flight l c.hardware.front.entries) place ∙ places_retired steps row rest ∙
-      ap (λ l. row_places l ++ rest) (append_assoc earlier c.steps (Retired row ∷ []))) p
+  with_row c e es written place p = grind (arith, places_retired, append_assoc)
 
   row_flushes : (c : Committing) (e : Entry) (es : List Entry) (written : Option (ℕ × ℕ)) →
       c.hardware.rob.entries ≡ e ∷ es → Committed c →
@@ -255,12 +226,7 @@ module _ (now : ℕ) (earlier : List Step) (is_stale : set.FinSet nat_cmp → �
       other_flushes c (Trap e.pc cause value c.hardware.cycle) refl p
   turn_placed {c} (traps e es begun cycle message fault head plain at is) p =
       other_flushes c (Trap e.pc fault.cause fault.value c.hardware.cycle) refl p
-  turn_placed {c} (retires e es begun cycle message head plain at none) p =
-      let row : Row = row_at e (written_of e message) c.hardware.cycle in
-      subst (λ l. AreNext now (row_places (earlier ++ (c.steps ++ Retired row ∷ [])) ++
-      in_flight l c.hardware.front.entries))
-      (sym (head_retired_entries c.hardware.rob e es head.place))
-      (with_row c e es (written_of e message) head.place p)
+  turn_placed {c} (retires e es begun cycle message head plain at none) p = grind (arith, with_row)
   turn_placed {c} (retires_last e es begun cycle message head plain at none) p =
       row_flushes c e es (written_of e message) head.place p
   turn_placed _ p = p
@@ -300,24 +266,10 @@ module _ (earlier : List Step) {lines : Lines} {old new : Hardware} {report : Re
       (execute_placed old.cycle rows is.committing.hardware committed)
 
   fetched : AreNext (old.cycle + 1) (rows ++ in_flight d.rob.entries new.front.entries)
-  fetched =
-      fetch-cases any_prediction d.cache.backing old.cycle d.front new.front is.fetch_stop
-      (λ halted stays.
-      subst (λ (r : FetchBuffer). AreNext (old.cycle + 1) (rows ++ in_flight d.rob.entries r.entries)) (sym stays)
-      (later_are_next old.cycle _ executed))
-      (λ runs adds.
-      subst (AreNext (old.cycle + 1))
-      (places_fetched rows d.rob.entries d.front.entries adds.added ∙
-      ap (λ (r : FetchBuffer). rows ++ in_flight d.rob.entries r.entries) (sym adds.is))
-      (more_are_next old.cycle d.front.next_pc _ _
-      (fetches_straight any_prediction d.cache.backing old.cycle d.front.width _ d.front.next_pc adds.added
-      new.front.next_pc is.fetch_stop adds.words) executed)) is.fetches
+  fetched = grind (arith, later_are_next, executed, places_fetched, more_are_next, fetches_straight)
 
   cycle_placed : AreNext new.cycle (places (earlier ++ report.steps) new)
-  cycle_placed =
-      subst (λ (r : Report). AreNext new.cycle (places (earlier ++ r.steps) new)) (sym is.reports)
-      (subst (λ (g : Hardware). AreNext g.cycle (places (earlier ++ is.committing.steps) g)) (sym is.others_stay)
-      fetched)
+  cycle_placed = grind (arith, fetched)
 
 history_placed : {v : Values} {steps : List Step} {h : Hardware} → History v steps h →
     AreNext h.cycle (places steps h)

@@ -2,16 +2,16 @@
 use Rattle.rv_hardware.proofs.Words.{◌≡◌, ℕ, suc, ◌<◌, ◌≤◌, Bool, true, false, cond, ◌&&◌, ◌||◌, ◌⊎◌, List, [], ◌∷◌}
 use Rattle.rv_hardware.proofs.Words.{◌++◌, map, length, is_some, is_none, nat_lt, nat_le, ◌==◌, Some, None, count_by}
 use Rattle.rv_hardware.proofs.Words.{filter, Option, sym, refl, ap, ◌∙◌, subst, inl, inr, true≢false, arith, lt-ltb}
-use Rattle.rv_hardware.proofs.Words.{eq-eqb, leb-false, leb-true, and_from, length-filter, list_any, is_same-own}
-use Rattle.rv_hardware.proofs.Words.{is_of_kind, is_serialising, is_store, kind_of_word, at_kind, Kind, Values, Each}
-use Rattle.rv_hardware.proofs.Words.{LacksRoom, Entry, Stage, Fetched, Dispatching, dispatch, dispatch_turn}
-use Rattle.rv_hardware.proofs.Words.{has_full_stations, is_stationed, Hardware, is_waiting, WaitsForRoom, Turn}
-use Rattle.rv_hardware.proofs.Words.{EachAfter, is_dispatched_in, is_in_flight_in, is_row_of_kind, is_stationed_in}
-use Rattle.rv_hardware.proofs.Words.{is_store_row, passes, rows_of, Execution, Row, Step, and_first, and_second}
-use Rattle.rv_hardware.proofs.Words.{Each-All, Each-left, Each-right, Each-place, Each-weaker, Each-all, Each-map}
-use Rattle.rv_hardware.proofs.Words.{Each-filter, EveryAfter, count, count-count_by, count-append, count-yes, count-map}
-use Rattle.rv_hardware.proofs.Words.{count-le, EveryAfter-append, EveryAfter-all, EachAfter-EveryAfter, Leads}
-use Rattle.rv_hardware.proofs.Words.{turns_within, entry_of_fetched, Each-images, each_image, each_then, Each-append}
+use Rattle.rv_hardware.proofs.Words.{leb-false, leb-true, and_from, length-filter, list_any, is_same-own, is_of_kind}
+use Rattle.rv_hardware.proofs.Words.{is_serialising, is_store, kind_of_word, at_kind, Kind, Values, Each, LacksRoom}
+use Rattle.rv_hardware.proofs.Words.{Entry, Stage, Fetched, Dispatching, dispatch, dispatch_turn, has_full_stations}
+use Rattle.rv_hardware.proofs.Words.{is_stationed, Hardware, is_waiting, WaitsForRoom, Turn, EachAfter}
+use Rattle.rv_hardware.proofs.Words.{is_dispatched_in, is_in_flight_in, is_row_of_kind, is_stationed_in, is_store_row}
+use Rattle.rv_hardware.proofs.Words.{passes, rows_of, Execution, Row, Step, and_first, and_second, Each-All, Each-left}
+use Rattle.rv_hardware.proofs.Words.{Each-right, Each-place, Each-weaker, Each-all, Each-map, Each-filter, EveryAfter}
+use Rattle.rv_hardware.proofs.Words.{count, count-count_by, count-append, count-map, count-le, EveryAfter-append}
+use Rattle.rv_hardware.proofs.Words.{EveryAfter-all, EachAfter-EveryAfter, Leads, turns_within, Each-images, each_image}
+use Rattle.rv_hardware.proofs.Words.{each_then, Each-append}
 use Rattle.rv_hardware.proofs.Laws.DispatchWidth.{dispatched_shows}
 use Rattle.rv_hardware.proofs.Laws.ReorderBuffer.{in_flight_shows}
 use Rattle.rv_hardware.proofs.Laws.Stations.{stationed_shows}
@@ -20,9 +20,8 @@ use Rattle.rv_hardware.proofs.Marks.Cited.{is_in_flight_mark, is_stationed_mark,
 use Rattle.rv_hardware.proofs.Marks.Cited.{dispatching, after_law, after_count, DispatchTurn, dispatch_turn_is}
 use Rattle.rv_hardware.proofs.Marks.Cited.{WaitsFor, for_serial, for_buffer, for_station, for_queue, buffer_empty}
 use Rattle.rv_hardware.proofs.Marks.Cited.{waits, dispatches, Mark, mark_of_row, mark_of_entry, mark_of_fetched, at_end}
-use Rattle.rv_hardware.proofs.Marks.Cited.{as_of, was_fetched, start_until, start_of_stage, start_of_execution}
-use Rattle.rv_hardware.proofs.Marks.Cited.{until_by, until_now, Older, rows_are_older, SoundRow, HasShape, some_kind}
-use Rattle.rv_hardware.proofs.Marks.Cited.{is_at, rows_obey_after}
+use Rattle.rv_hardware.proofs.Marks.Cited.{as_of, start_until, start_of_stage, start_of_execution, until_by, until_now}
+use Rattle.rv_hardware.proofs.Marks.Cited.{Older, rows_are_older, SoundRow, HasShape, some_kind, is_at, rows_obey_after}
 
 -- a word that could have been dispatched in a cycle: the oldest that was not, with no serialising instruction in flight
 pub record MayEnter (c : ℕ) (before : List Mark) (m : Mark) : Type 0 where
@@ -63,16 +62,7 @@ module _ (v : Values) (now : ℕ) where
   left_leads k (buffer_empty none) p = λ f fs at. absurd (let no_more = sym none ∙ at in cc)
   left_leads k {d} (waits f fs reason at why) p =
       λ g gs at'. inr (subst (WaitsFor d.hardware) (same_head f g fs gs (sym at ∙ at')) why)
-  left_leads k {d} (dispatches f fs at nothing) p =
-      let one = count-yes dispatched_now (entry_of_fetched d.hardware f) [] (eq-eqb d.hardware.cycle now p.0) in (
-        p.0,
-        omega (
-          arith,
-          count-append dispatched_now d.hardware.rob.entries (entry_of_fetched d.hardware f ∷ []),
-          one,
-          p.1,
-        ),
-      )
+  left_leads k {d} (dispatches f fs at nothing) p = grind (arith, count-append)
 
   -- after the dispatch phase the width is used up, or the oldest word has a reason to wait
   pub dispatch_leaves : (h : Hardware) → h.values.dispatch_width ≡ v.dispatch_width → h.cycle ≡ now →
@@ -123,19 +113,8 @@ module _ (v : Values) (now : ℕ) (rows : List Row) (h : Hardware) (shape : HasS
   by_station is full = grind (arith, leb-true, stationed_entries, at_least, is_same-own)
 
   by_reason : MayEnter now olders_of (mark_of_fetched f) → WaitsFor h f → NoRoom v now olders_of (mark_of_fetched f)
-  by_reason may (for_serial is) =
-      absurd (no_serial h.rob.entries
-      (Each-right (λ x. is_serialising x.instruction ≡ true → is_some x.retired ≡ true) (map mark_of_row rows)
-      (map mark_of_entry h.rob.entries) may.serial)
-      is)
-  by_reason may (for_buffer is) =
-      inr (inl (omega (
-        arith,
-        leb-true h.rob.capacity (length h.rob.entries) is,
-        in_flight_entries h.rob.entries,
-        at_least is_in_flight_mark,
-        shape.buffer,
-      )))
+  by_reason may (for_serial is) = grind (arith, no_serial, Each-right)
+  by_reason may (for_buffer is) = grind (arith, in_flight_entries, at_least)
   by_reason may (for_station is) = by_station refl is
   by_reason may (for_queue is) = absurd (true≢false (sym (and_first (is_store f.instruction) _ is) ∙ may.plain))
 
@@ -234,18 +213,13 @@ module _ {v : Values} {bound : ℕ} (c : ℕ) (before : List Row) {row : Row} (o
   fewer : (p : Mark → Bool) {q : Row → Bool} →
       ((a : Row) → SoundRow v bound a → p (at_end c (mark_of_row a)) ≡ true → q a ≡ true) →
       count p (as_of c (map mark_of_row before)) ≤ count_by q before
-  fewer p {q} f =
-      after_count p q c before
-      (each_then (λ a o h. f a o.sound (and_second (was_fetched c (mark_of_row a)) (p (at_end c (mark_of_row a))) h)) _
-      older)
+  fewer p {q} f = grind (arith, after_count, each_then)
 
   room_of_rows : NoRoom v c (as_of c (map mark_of_row before)) (at_end c (mark_of_row row)) →
       (v.dispatch_width ≤ count_by (is_dispatched_in c) before) ⊎ (v.rob ≤ count_by (is_in_flight_in c) before) ⊎
       ((kind : Kind) × (is_row_of_kind kind row ≡ true) ×
       ((at_kind kind v.kinds).stations ≤ count_by (is_stationed_in kind c) before))
-  room_of_rows (inl wide) =
-      let less = fewer (λ x. is_at c x.dispatched) (λ a s h. dispatched_row c a.dispatched refl h) in
-      inl (omega (arith, wide, less))
+  room_of_rows (inl wide) = grind (arith, fewer)
   room_of_rows (inr (inl full)) =
       let less = fewer is_in_flight_mark (λ a s h. flight_row c a h) in inr (inl (omega (arith, full, less)))
   room_of_rows (inr (inr full)) =

@@ -86,12 +86,7 @@ begun_at c x h = grind arith
 -- where the mark of a row begins in a cycle, the row was issued in it
 begun_in : (k : Kind) (c : ℕ) (a : Row) →
     (was_fetched c (mark_of_row a) && begins_mark k c (at_end c (mark_of_row a))) ≡ true → is_issued_in k c a ≡ true
-begun_in k c a is =
-    let of_kind = is_row_of_kind k a in
-    let starts = starts_at c (start_until c (start_of_execution a.execution)) in
-    let both = and_second (was_fetched c (mark_of_row a)) (begins_mark k c (at_end c (mark_of_row a))) is in
-    let begun = begun_at c a.execution (and_second of_kind starts both) in
-    and_from of_kind (passes (λ y. y.issued == c) a.execution) (and_first of_kind starts both) begun
+begun_in k c a is = grind arith
 
 -- the field `no_idle_unit` of `Laws`, of every run
 pub law_of_no_idle_unit : {v : Values} {earlier steps : List Step} {old new : Hardware} →

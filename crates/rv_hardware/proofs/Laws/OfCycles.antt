@@ -51,6 +51,4 @@ pub counts_of_runs : {arrivals : List Arrival} {old new : Hardware} {reports : L
     Cycles arrivals old reports new →
     (busy_of reports + stall_cycles (stalls_of reports) ≡ length reports) × (new.cycle ≡ old.cycle + length reports)
 counts_of_runs {reports = reports} reached cycles =
-    let before = reachable_has_history reached in
-    let counted_once = run_is_counted cycles before.2 in
-    (busy_and_stalls reports counted_once.0, counted_once.1)
+    grind (arith, reachable_has_history, run_is_counted, busy_and_stalls)

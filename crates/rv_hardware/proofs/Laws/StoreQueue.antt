@@ -51,12 +51,6 @@ module _ (v : Values) (now : ℕ) (earlier : List Step) (is_stale : set.FinSet n
       Queue v now (earlier ++ (c.steps ++ s ∷ [])) h
   no_row c s h given port committed ok = grind (arith, pushed, append-nil)
 
-  module _ (c : Committing) (e : Entry) (es : List Entry) (written : Option (ℕ × ℕ))
-      (place : c.hardware.rob.entries ≡ e ∷ es) (may : MayRetire e.instruction e.stage)
-      (p : InCommit v now earlier is_stale c) where
-    row_is_store : is_store_row (row_at e written c.hardware.cycle) ≡ is_store e.instruction
-    row_is_store = grind (arith, row_decodes, retiring_is_one)
-
   -- a serialising instruction
   serial_row : (c : Committing) (e : Entry) (es : List Entry) (written : Option (ℕ × ℕ)) (port : ℕ) →
       c.hardware.rob.entries ≡ e ∷ es → is_serialising e.instruction ≡ true → c.hardware.port_free ≤ port →
@@ -64,11 +58,7 @@ module _ (v : Values) (now : ℕ) (earlier : List Step) (is_stale : set.FinSet n
       QueueOk v.cache.hit now
       (rows_of (earlier ++ (c.steps ++ Retired (row_at e written c.hardware.cycle) ∷ []))) port c.hardware.committed
   serial_row c e es written port place serial le p ok =
-      let row : Row = row_at e written c.hardware.cycle in
-      let plain = row_is_store c e es written place (may_retire_serial e.instruction e.stage serial) p ∙
-      serialising_is_no_store e.instruction serial in
-      let more = plain_retires ok row plain in
-      rw (pushed c (Retired row)) (queue_later more port le)
+      grind (arith, serialising_is_no_store, plain_retires, pushed, queue_later)
 
   -- a result
   result_row : (c : Committing) (e : Entry) (es : List Entry) {issue : Option Issue} {cycle : ℕ} {message : Message} →
@@ -76,14 +66,7 @@ module _ (v : Values) (now : ℕ) (earlier : List Step) (is_stale : set.FinSet n
       InCommit v now earlier is_stale c → Queues c →
       Queue v now (earlier ++ (c.steps ++ Retired (row_at e (written_of e message) c.hardware.cycle) ∷ []))
       (retired_with e message c).hardware
-  result_row c e es {issue} {cycle} {message} place given holds p ok =
-      let row : Row = row_at e (written_of e message) c.hardware.cycle in
-      let same = row_is_store c e es (written_of e message) place (may_retire_finished e.instruction given holds) p in
-      let stored =
-      (message_at_end e.word e.instruction e.stage message (ap broadcast_of given)
-      (subst (Each Shaped) place p.basics.always.stores.0.0).0).store holds in
-      rw (pushed c (Retired row))
-      (queue_retires ok row c.hardware.rob.retired message.store (stored ∙ sym same) (omega (arith, p.basics.cycle)))
+  result_row c e es {issue} {cycle} {message} place given holds p ok = grind (arith, pushed, queue_retires)
 
   -- each turn of the commit phase keeps the tie
   pub commit_queue : (c : Committing) (t : Turn Committing) → CommitTurn is_stale c t →
@@ -97,9 +80,7 @@ module _ (v : Values) (now : ℕ) (earlier : List Step) (is_stale : set.FinSet n
       serial_row c e es written c.hardware.port_free head.place serial (omega arith) p ok
   commit_queue c _ (serial_faults e es cause value head serial other) p ok =
       no_row c (Trap e.pc cause value c.hardware.cycle) (with_fault e cause value c).hardware refl refl refl ok
-  commit_queue c _ (traps e es issue cycle message fault head plain at is) p ok =
-      no_row c (Trap e.pc fault.cause fault.value c.hardware.cycle)
-      (with_fault e fault.cause fault.value c).hardware refl refl refl ok
+  commit_queue c _ (traps e es issue cycle message fault head plain at is) p ok = grind (arith, no_row)
   commit_queue c _ (retires e es issue cycle message head plain at none) p ok =
       result_row c e es head.place at none p ok
   commit_queue c _ (retires_last e es issue cycle message head plain at none) p ok =
@@ -122,33 +103,13 @@ module _ (v : Values) (now : ℕ) (steps : List Step) where
   Drained h = (h.cycle ≡ now) × (h.cache.values ≡ v.cache) × Queue v now steps h
 
   drain_queue : IsKeptByDrain Drained
-  drain_queue = record {
-    leaves = λ h p idle.
-        let le = leb-true h.port_free h.cycle idle in
-        (p.0, p.1, queue_leaves v.cache.hit now (rows_of steps) h.port_free (omega (arith, le, p.0)) p.2);
-    drains = λ h access p idle is.
-        let le = leb-true h.port_free h.cycle idle in (
-          p.0,
-          p.1,
-          queue_begins v.cache.hit now (rows_of steps) h.port_free (omega (arith, le, p.0)) _
-              (omega (arith, p.0, access_cost-least h.cache access.address, ap (λ (c : CacheValues). c.hit) p.1)) p.2,
-        );
-  }
+  drain_queue = grind (arith, queue_leaves, queue_begins)
 
   issue_queue : (k : Kind) → IsKeptByIssue (Queue v now steps) k
-  issue_queue k = record {
-    accesses = λ h older younger e address ok split ready by.
-        let idle = subst (λ q. has_port h q ≡ true) by (has_its_port h older e (ready-parts h k older e ready).loads) in
-        queue_later ok _ (port_grows h (FromCache address) idle);
-    starts = λ h older younger e cost message ok split waits of_kind result costs. ok;
-  }
+  issue_queue k = grind (arith, queue_later)
 
   broadcast_queue : IsKeptByBroadcast (Queue v now steps)
-  broadcast_queue =
-      record {
-        broadcasts = λ h older younger e message ok split gives. ok;
-        mends = λ h older younger e next ok split. ok;
-      }
+  broadcast_queue = grind arith
 
   dispatch_queue : IsKeptByDispatch (Queue v now steps)
   dispatch_queue = record { dispatches = λ h fetched rest ok first none. ok }

@@ -1,12 +1,11 @@
 -- Where marks are counted at the end of each cycle, no more rows pass the test of a cycle than marks did.
 use Rattle.rv_hardware.proofs.Words.{◌≡◌, ℕ, suc, ◌<◌, ◌≤◌, Bool, true, false, cond, ◌&&◌, List, [], ◌∷◌, ◌++◌, map}
-use Rattle.rv_hardware.proofs.Words.{count_by, refl, ap, ◌∙◌, inl, inr, arith, le-leb, cases_lt, map-append, Lines}
-use Rattle.rv_hardware.proofs.Words.{Values, Each, Hardware, Report, rows_of, Row, Step, EveryAfter, count}
-use Rattle.rv_hardware.proofs.Words.{count-count_by, count-none, count-map, count-le, Beginning-count, EveryAfter-at}
-use Rattle.rv_hardware.proofs.Words.{each_then}
+use Rattle.rv_hardware.proofs.Words.{count_by, refl, ◌∙◌, inl, inr, arith, le-leb, cases_lt, map-append, Lines, Values}
+use Rattle.rv_hardware.proofs.Words.{Each, Hardware, Report, rows_of, Row, Step, EveryAfter, count, count-count_by}
+use Rattle.rv_hardware.proofs.Words.{count-none, count-map, count-le, Beginning-count, EveryAfter-at, each_then}
 use Rattle.rv_hardware.proofs.Marks.History.{Passed, History, history_is_sound}
-use Rattle.rv_hardware.proofs.Marks.List.{Mark, mark_of_row, marks_in, at_end, as_of, as_of-append, as_of-cons}
-use Rattle.rv_hardware.proofs.Marks.List.{was_fetched, Extends}
+use Rattle.rv_hardware.proofs.Marks.List.{Mark, mark_of_row, marks_in, at_end, as_of, as_of-append, was_fetched}
+use Rattle.rv_hardware.proofs.Marks.List.{Extends}
 use Rattle.rv_hardware.proofs.Marks.Past.{rows_obey}
 use Rattle.rv_hardware.proofs.Marks.Row.{SoundRow}
 
@@ -75,10 +74,7 @@ module _ {v : Values} {row_test : ℕ → Row → Bool} {test : ℕ → Mark →
 
 pub as_of_place : (c : ℕ) (before after : List Mark) (m : Mark) → was_fetched c m ≡ true →
     as_of c (before ++ m ∷ after) ≡ as_of c before ++ at_end c m ∷ as_of c after
-as_of_place c before after m is =
-    as_of-append c before (m ∷ after) ∙
-    ap (λ l. as_of c before ++ l)
-    (as_of-cons c m after ∙ ap (λ b. cond b (at_end c m ∷ as_of c after) (as_of c after)) is)
+as_of_place c before after m is = grind (arith, as_of-append)
 
 -- what marks obeyed at the end of a cycle, of one row after others
 pub after_law : (P : List Mark → Mark → Type 0) (c : ℕ) {rows : List Row} (before after : List Row) (row : Row) →

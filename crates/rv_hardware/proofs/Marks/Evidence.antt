@@ -140,10 +140,7 @@ module _ (v : Values) (d a now : ℕ) where
         Each (SoundEntry v d a now) older → list_all is_known_store (committed ++ stores_of seq older) ≡ true →
         Each (IsKnownStore now) (map mark_of_row rows ++ map mark_of_entry older)
     stores_known committed seq older sound h =
-        Each-append _ _ _ (each_then (λ m known store. known (store_has_unit m.instruction store)) _ rows_known)
-        (stores_all seq older sound
-        (and_second (list_all is_known_store committed) (list_all is_known_store (stores_of seq older))
-        (sym (list_all-append is_known_store committed (stores_of seq older)) ∙ h)))
+        grind (arith, Each-append, each_then, rows_known, stores_all, list_all-append)
 
 -- no older result waits
 

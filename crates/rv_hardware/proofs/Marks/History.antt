@@ -92,16 +92,7 @@ module _ {v : Values} (legal : IsLegal v) {R : List Mark → Type 0} {earlier : 
       (others_stay : new ≡ record d { front = new.front; cycle = old.cycle + 1 }) (always : IsSoundFor v new) where
     ended : Basics v (old.cycle + 1) (old.cycle + 1) (old.cycle + 1) (old.cycle + 1) (old.cycle + 1)
         (old.cycle + 1) steps new
-    ended = record {
-      cycle = ap (λ (h : Hardware). h.cycle) others_stay;
-      always = always;
-      rows = dispatched.basics.rows;
-      entries = subst (Each (SoundEntry v (old.cycle + 1) (old.cycle + 1) (old.cycle + 1)))
-          (sym (ap (λ (h : Hardware). h.rob.entries) others_stay)) dispatched.basics.entries;
-      fetched = rw (fetches.entries)
-          (Each-append _ _ _ (each_then (λ f w. (omega (arith, w.0), w.1)) _ dispatched.basics.fetched)
-          (each_then (λ f w. (omega (arith, w.0), w.1)) _ fetches.are_new));
-    }
+    ended = grind (arith, Each-append, each_then)
 
     more_marks : marks_in steps new ≡ marks_in steps d ++ map mark_of_fetched fetches.added
     more_marks = grind (arith, marks_fetched)

@@ -153,9 +153,7 @@ row_marks_append xs ys = ap (map mark_of_row) (rows_append xs ys) ∙ map-append
 
 -- marks in two parts, as they stood at the end of a cycle
 pub as_of-append : (c : ℕ) (xs ys : List Mark) → as_of c (xs ++ ys) ≡ as_of c xs ++ as_of c ys
-as_of-append c xs ys =
-    ap (map (at_end c)) (filter-append (was_fetched c) xs ys) ∙
-    map-append (at_end c) (filter (was_fetched c) xs) (filter (was_fetched c) ys)
+as_of-append c xs ys = grind (arith, filter-append, map-append)
 
 -- a mark that was not fetched by then
 pub as_of-later : (c : ℕ) (ms : List Mark) → Each (λ m. c < m.fetched) ms → as_of c ms ≡ []

@@ -1,13 +1,12 @@
 -- Instructions are fetched and dispatched in order, and buffer and stations hold no more than they have room for.
 use Rattle.rv_hardware.proofs.Words.{◌≡◌, ℕ, ◌+◌, ◌≤◌, Bool, true, false, ◌&&◌, List, [], ◌∷◌, ◌++◌, map, is_some}
-use Rattle.rv_hardware.proofs.Words.{is_none, IfSome, Some, None, Option, sym, refl, ap, ◌∙◌, subst, arith, and_left}
-use Rattle.rv_hardware.proofs.Words.{and_right, is_of_kind, kind_of_word, at_kind, Kind, Values, Each, Fetched}
-use Rattle.rv_hardware.proofs.Words.{Hardware, Step, and_second, never_both, Each-left, Each-set, Each-place}
-use Rattle.rv_hardware.proofs.Words.{Each-weaker, Each-all, Each-both, Each-map, EveryPair, count, Across}
-use Rattle.rv_hardware.proofs.Words.{EveryPair-append, EveryPair-right, EveryPair-across, EveryPair-set}
-use Rattle.rv_hardware.proofs.Words.{count-append, count-none, count-map, count-length, count-set-same, count-set-less}
-use Rattle.rv_hardware.proofs.Words.{count-push-most, count-left, Each-images, each_image, each_then, Each-append}
-use Rattle.rv_hardware.proofs.Words.{pair_moves, each_moves}
+use Rattle.rv_hardware.proofs.Words.{is_none, IfSome, Some, None, Option, sym, refl, ap, ◌∙◌, subst, arith, and_right}
+use Rattle.rv_hardware.proofs.Words.{is_of_kind, kind_of_word, at_kind, Kind, Values, Each, Fetched, Hardware, Step}
+use Rattle.rv_hardware.proofs.Words.{and_second, never_both, Each-left, Each-set, Each-place, Each-weaker, Each-all}
+use Rattle.rv_hardware.proofs.Words.{Each-both, Each-map, EveryPair, count, Across, EveryPair-append, EveryPair-right}
+use Rattle.rv_hardware.proofs.Words.{EveryPair-across, EveryPair-set, count-append, count-none, count-map, count-length}
+use Rattle.rv_hardware.proofs.Words.{count-set-same, count-set-less, count-push-most, count-left, Each-images}
+use Rattle.rv_hardware.proofs.Words.{each_image, each_then, Each-append, pair_moves, each_moves}
 use Rattle.rv_hardware.proofs.Marks.Advance.{IsBefore, Advances, mark_retires, mark_starts, mark_is_sent, mark_enters}
 use Rattle.rv_hardware.proofs.Marks.Advance.{Enters, is_in_flight_mark, is_stationed_mark}
 use Rattle.rv_hardware.proofs.Marks.History.{NewWords, is_buffered_mark, KeptMarks, History, marks_of_history}
@@ -70,9 +69,7 @@ module _ (v : Values) (now : ℕ) (xs ys : List Mark) (m n : Mark) where
     across = EveryPair-across _ xs _ o.dispatched
 
     younger : Each (λ y. y.dispatched ≡ None) ys
-    younger = each_then
-        (λ y w. none_before y.dispatched (subst (λ x. IfSome y.dispatched (λ d. IsBefore (d + 1) x)) a.not_yet w)) _
-        (pairs).0
+    younger = grind (arith, each_then, pairs)
 
     n_dispatched : n.dispatched ≡ Some now
     n_dispatched = ap (λ x. x.dispatched) a.becomes
@@ -96,11 +93,7 @@ module _ (v : Values) (now : ℕ) (xs ys : List Mark) (m n : Mark) where
         count (is_stationed_mark k) (xs ++ n ∷ ys) ≤ (at_kind k v.kinds).stations
     station_by k true is =
         omega (arith, count-push-most (is_stationed_mark k) xs ys n, not_stationed k, a.stations k is)
-    station_by k false is =
-        let less = count-set-less (is_stationed_mark k) xs ys m n
-        (and_left (is_of_kind k (kind_of_word n.instruction)) (is_some n.dispatched && is_none n.start)
-        (ap (λ x. is_of_kind k (kind_of_word x.instruction)) a.becomes ∙ is)) in
-        omega (arith, less, o.stations k)
+    station_by k false is = grind (arith, count-set-less)
 
     entered : Orderly v now (xs ++ n ∷ ys)
     entered =

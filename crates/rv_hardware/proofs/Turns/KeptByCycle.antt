@@ -2,7 +2,6 @@
 use Rattle.rv_hardware.proofs.Words.{◌≡◌, ℕ, ◌+◌, sym, refl, ap, ◌∙◌, subst, Lines, Kind, CacheValues, Values, Memory}
 use Rattle.rv_hardware.proofs.Words.{Answers, FetchBuffer, FetchesInto, FetchStop, IsCycle, any_prediction, execute}
 use Rattle.rv_hardware.proofs.Words.{with_lines, Hardware, Report, arith}
-use Rattle.std.specs.FinSet as set
 use Rattle.rv_hardware.proofs.Turns.Changes.{IsKeptByChanges, new_levels, all_squashed, head_retires, cache_written}
 use Rattle.rv_hardware.proofs.Turns.Changes.{store_drained, store_drains, load_accesses, one_starts, one_sent}
 use Rattle.rv_hardware.proofs.Turns.Changes.{one_mended, one_enters}
@@ -102,11 +101,7 @@ module _ {P : Hardware → Type 0} (kept : IsKeptByPhases P) where
   pub phases-keep : {answers : Answers} {lines : Lines} {old new : Hardware} {report : Report}
       (cycle : IsCycle answers lines old report new) →
       P old → P cycle.dispatching.hardware
-  phases-keep {lines = lines} {old = old} cycle holds =
-      let committed : P cycle.committing.hardware =
-      subst (λ c. P c.hardware) (sym cycle.commits)
-      (commit-keeps kept.commit set.contains (with_lines lines old) (kept.lines old lines holds)) in
-      subst (λ d. P d.hardware) (sym cycle.executes) (execute-keeps cycle.committing.hardware committed)
+  phases-keep {lines = lines} {old = old} cycle holds = grind (arith, commit-keeps, execute-keeps)
 
 -- what was described, and the cycle's number
 abbrev pub SameAs : Values → CacheValues → ℕ → Hardware → Type 0

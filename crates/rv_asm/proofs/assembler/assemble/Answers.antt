@@ -1,14 +1,10 @@
-use Rattle.std.proofs.Common.{rules, ◌∙◌, sym}
+use Rattle.std.proofs.Common.{arith}
 use Rattle.std.proofs.lemmas.Result.{IfOk-weaker}
 use Rattle.rv_asm.proofs.Kept.{same_fault, same_image}
 use Rattle.rv_asm.proofs.assembler.assemble.Goals as goal
 
 pub returns-clause-clean : goal.returns-clause-clean
-returns-clause-clean c =
-    IfOk-weaker c.image_of.result _ _
-    (λ image clean. rw c.in_ok-layout.ensures.clean
-    (sym (same_fault c.args.base c.args.text.now _ _ c.in_ok-layout.ensures.tells c.in_ok-layout.ensures.kept) ∙ clean))
-    c.image_of.ensures.clean
+returns-clause-clean c = grind (arith, same_fault)
 
 pub returns-clause-bytes : goal.returns-clause-bytes
 returns-clause-bytes c =
@@ -18,10 +14,4 @@ returns-clause-bytes c =
     c.image_of.ensures.bytes
 
 pub returns-clause-refused : goal.returns-clause-refused
-returns-clause-refused c =
-    rw (
-      c.in_ok-layout.ensures.clean,
-      ← same_fault c.args.base c.args.text.now _ _ c.in_ok-layout.ensures.tells
-          c.in_ok-layout.ensures.kept,
-    )
-    (search rules)
+returns-clause-refused c = grind (arith, same_fault)

@@ -1,15 +1,11 @@
-use Rattle.std.proofs.Common.{rules, ◌∙◌, ap, sym}
+use Rattle.std.proofs.Common.{ap, arith}
 use Rattle.std.proofs.lemmas.Result.{IfOk-weaker}
 use Rattle.rv_asm.proofs.Kept.{same_fault, same_image}
 use Rattle.rv_asm.proofs.Words.{listed_is}
 use Rattle.rv_asm.proofs.listing.assemble_listed.Goals as goal
 
 pub returns-clause-clean : goal.returns-clause-clean
-returns-clause-clean c =
-    IfOk-weaker c.listed_image.result _ _
-    (λ listed clean. rw c.in_ok-layout.ensures.clean
-    (sym (same_fault c.args.base c.args.text.now _ _ c.in_ok-layout.ensures.tells c.in_ok-layout.ensures.kept) ∙ clean))
-    c.listed_image.ensures.clean
+returns-clause-clean c = grind (arith, same_fault)
 
 pub returns-clause-bytes : goal.returns-clause-bytes
 returns-clause-bytes c =
@@ -26,10 +22,4 @@ returns-clause-listing c =
     c.listed_image.ensures.listing
 
 pub returns-clause-refused : goal.returns-clause-refused
-returns-clause-refused c =
-    rw (
-      c.in_ok-layout.ensures.clean,
-      ← same_fault c.args.base c.args.text.now _ _ c.in_ok-layout.ensures.tells
-          c.in_ok-layout.ensures.kept,
-    )
-    (search rules)
+returns-clause-refused c = grind (arith, same_fault)

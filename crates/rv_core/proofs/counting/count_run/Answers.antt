@@ -12,9 +12,6 @@ pub run_cycle-requires-clause-bounded : goal.run_cycle-requires-clause-bounded
 run_cycle-requires-clause-bounded g c =
     bounded_so_far HasTaken c.args.arrivals.now _ uncounted None c.loop.invariant.0
 
-pub run_cycle-requires-clause-countable : goal.run_cycle-requires-clause-countable
-run_cycle-requires-clause-countable g c = omega (arith, c.loop.invariant.1, c.loop-test.true, c.ranges.limit)
-
 pub run_cycle-requires-clause-room : goal.run_cycle-requires-clause-room
 run_cycle-requires-clause-room g c =
     room_to_count c.args.arrivals.now _ c.loop.invariant.0

@@ -3,9 +3,6 @@ use Rattle.rv_core.proofs.RunCycles.{run_of_cycles}
 use Rattle.rv_watch.proofs.Shown.{cut_short_by, cycles_shown, stops_by}
 use Rattle.rv_core.proofs.cycles.collect.Goals as goal
 
-pub watch-ended-requires-clause-ready : goal.watch-ended-requires-clause-ready
-watch-ended-requires-clause-ready g c = (None, c.new-collector.ensures)
-
 pub returns-in-Ok : goal.returns-in-Ok
 returns-in-Ok g c =
     let run = c.watch-ended.ensures in (

@@ -1,7 +1,8 @@
-use Rattle.rv_core.proofs.Words.{◌≡◌, ◌+◌, ◌-◌, [], ◌∷◌, ◌++◌, take, replicate, slice_range, None, sym, ap, ◌∙◌}
-use Rattle.rv_core.proofs.Words.{number_of, bytes_of, is_sign_extended, width_of, modulo_word, pc_plus_4, sum, extended}
-use Rattle.rv_core.proofs.Words.{effect_message, fault_message, writes, older_than, bytes_over, path_of}
-use Rattle.rv_core.proofs.Loads.Message.{accesses, from_cache, from_fault, from_stores}
+use Rattle.std.proofs.Common.{arith}
+use Rattle.rv_core.proofs.Words.{[], ◌∷◌, take, None, sym, ap, ◌∙◌, number_of, bytes_of, is_sign_extended, width_of}
+use Rattle.rv_core.proofs.Words.{modulo_word, pc_plus_4, sum, extended, effect_message, fault_message, writes}
+use Rattle.rv_core.proofs.Words.{older_than, path_of}
+use Rattle.rv_core.proofs.Loads.Message.{from_cache, from_fault, from_stores}
 use Rattle.rv_core.proofs.load.load.Goals as goal
 
 pub returns-in-FromStores-clause-message : goal.returns-in-FromStores-clause-message
@@ -21,34 +22,7 @@ returns-in-FromStores-clause-message c = λ s at after.
     ∙ sym c.path_of.ensures ∙ c.in-FromStores.is)
 
 pub returns-in-FromCache-clause-message : goal.returns-in-FromCache-clause-message
-returns-in-FromCache-clause-message c = λ s at after.
-    let cache = c.args.cache.now in
-    let stores = older_than c.args.ready.now.seq c.args.queue.now.stores in
-    let form = c.args.form in
-    let rd = c.args.rd in
-    let count = bytes_of (width_of form) in
-    let address = sum c.args.ready.now.first (modulo_word c.args.offset) in
-    let padding = replicate (4 - c.bytes.result) 0 in
-    let counted : c.bytes.result ≡ count = c.bytes.ensures ∙ ap bytes_of c.width-width.ensures in
-    let bytes = c.read-cost.ensures.bytes
-    ∙ (λ j. slice_range cache.bytes (c.address-place.ensures j - cache.base)
-    (c.address-place.ensures j - cache.base + counted j) ++ padding) in
-    let value = c.value_of-value-in-FromCache.ensures
-    ∙ ap (λ b. extended (is_sign_extended form) count (number_of (take count b)))
-    (c.laid_over-in-FromCache.ensures ∙ ap (bytes_over c.in-FromCache.overlay) bytes) in
-    c.computed-in-FromCache.ensures s at
-    ∙ ap (λ v. effect_message None (writes s rd v (pc_plus_4 s.pc))) value
-    ∙ from_cache cache stores c.requires.over_ram s after form rd address c.in-FromCache.overlay padding
-    ((λ j. path_of cache.backing.layout stores (sym c.address-place.ensures j) (bytes_of (sym c.width-width.ensures j)))
-    ∙ sym c.path_of.ensures ∙ c.in-FromCache.is)
-
-pub read-cost-requires : goal.read-cost-requires
-read-cost-requires c = record {
-  access = accesses c.args.cache.now (older_than c.args.ready.now.seq c.args.queue.now.stores) c.requires.over_ram
-      c.width-width.result c.address-place.result c.bytes.result c.in-FromCache.overlay
-      (sym c.path_of.ensures ∙ c.in-FromCache.is)
-      c.bytes.ensures;
-}
+returns-in-FromCache-clause-message c = grind (arith, from_cache)
 
 pub returns-in-Without-clause-message : goal.returns-in-Without-clause-message
 returns-in-Without-clause-message c = λ s at after.

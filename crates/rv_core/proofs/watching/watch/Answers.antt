@@ -1,29 +1,17 @@
 use Rattle.rv_core.proofs.Words.{◌+◌, refl, ap, ◌∙◌, arith, Progress}
-use Rattle.rv_watch.proofs.Shown.{bounded_so_far, ended_as, shown_now, so_many_shown, watched_to, watched_to_stop}
+use Rattle.rv_watch.proofs.Shown.{bounded_so_far, ended_as, shown_now, watched_to_stop}
 use Rattle.rv_core.proofs.RunCycles.{next_reported}
 use Rattle.rv_core.proofs.Taken.{listed_anew}
 use Rattle.rv_watch.proofs.Shown.{watching_nothing, watching_on, watching_still}
-use Rattle.rv_core.proofs.Exhausted.{all_done, cycle_left}
+use Rattle.rv_core.proofs.Exhausted.{cycle_left}
 use Rattle.rv_core.proofs.watching.watch.Goals as goal
 
 pub loop-init : goal.loop-init
 loop-init g c = grind (arith, watching_nothing)
 
-pub run_cycle-stop-requires-clause-room : goal.run_cycle-stop-requires-clause-room
-run_cycle-stop-requires-clause-room g c = c.clear.ensures.room c.loop.invariant.3
-
 pub run_cycle-stop-requires-clause-bounded : goal.run_cycle-stop-requires-clause-bounded
 run_cycle-stop-requires-clause-bounded g c =
     bounded_so_far g.T.Watcher.has_seen c.args.arrivals.now _ c.args.watcher.now _ c.loop.invariant.0
-
-pub run_cycle-stop-requires-clause-countable : goal.run_cycle-stop-requires-clause-countable
-run_cycle-stop-requires-clause-countable g c = omega (arith, c.loop.invariant.1, c.loop-test.true, c.ranges.limit)
-
-pub returns-then-is_exhausted : goal.returns-then-is_exhausted
-returns-then-is_exhausted g c = grind (arith, so_many_shown, all_done, ended_as, watched_to)
-
-pub returns-in-Err : goal.returns-in-Err
-returns-in-Err g c = grind (arith, watching_still, so_many_shown, ended_as, watched_to)
 
 pub show-requires-clause-shown : goal.show-requires-clause-shown
 show-requires-clause-shown g c =
@@ -82,6 +70,3 @@ loop-preserved g c =
       next.taken.kept ∙ c.clear.ensures.kept ∙ c.loop.invariant.2,
       omega (arith, next.taken.room, c.clear.ensures.capacity, c.loop.invariant.3),
     )
-
-pub returns : goal.returns
-returns g c = grind (arith, so_many_shown, ended_as, watched_to)

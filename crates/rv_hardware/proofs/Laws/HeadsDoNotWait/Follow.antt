@@ -1,12 +1,11 @@
 -- After a step the next instruction neither waits without need nor was it fetched late.
 use Rattle.rv_hardware.proofs.Words.{◌≡◌, ℕ, suc, ◌+◌, ◌<◌, ◌≤◌, max, Bool, true, false, ◌&&◌, List, [], ◌∷◌, ◌++◌}
-use Rattle.rv_hardware.proofs.Words.{is_some, Some, None, Option, option_map, nat_cmp, unwrap_or, sym, refl, ap}
-use Rattle.rv_hardware.proofs.Words.{◌∙◌, subst, inl, inr, append_assoc, arith, is_fence_i}
-use Rattle.rv_hardware.proofs.Words.{is_serialising, is_store, kind_of_word, Message, Cause, Fault, Instr, FenceI}
-use Rattle.rv_hardware.proofs.Words.{Issue, Values, word_of, Stop, Each, Entry, Stage, Finished, Fetched, Committing}
-use Rattle.rv_hardware.proofs.Words.{commit_turn, commit_unless, with_fault, Hardware, broadcast_of}
-use Rattle.rv_hardware.proofs.Words.{DoesNotWait, IsTrappedSoon, Turn, execution_of, written_of, is_store_row}
-use Rattle.rv_hardware.proofs.Words.{last_that, needs_no_unit, stamp_of, Execution, Step, Retired, Trap}
+use Rattle.rv_hardware.proofs.Words.{is_some, Some, None, Option, option_map, nat_cmp, unwrap_or, sym, refl, ap, ◌∙◌}
+use Rattle.rv_hardware.proofs.Words.{subst, inl, inr, append_assoc, arith, is_fence_i, is_serialising, is_store}
+use Rattle.rv_hardware.proofs.Words.{kind_of_word, Message, Cause, Fault, Instr, Issue, Values, word_of, Stop, Each}
+use Rattle.rv_hardware.proofs.Words.{Entry, Stage, Finished, Fetched, Committing, commit_turn, commit_unless}
+use Rattle.rv_hardware.proofs.Words.{with_fault, Hardware, DoesNotWait, IsTrappedSoon, Turn, execution_of, written_of}
+use Rattle.rv_hardware.proofs.Words.{is_store_row, last_that, needs_no_unit, stamp_of, Execution, Step, Retired, Trap}
 use Rattle.rv_hardware.proofs.Words.{not_both, EveryAfter, EveryAfter-append, Leads, leads_both, turns_within}
 use Rattle.std.specs.FinSet as set
 use Rattle.rv_hardware.proofs.Marks.Cited.{CommitTurn, Head, no_head, stale_head, unfinished, fence_waits, fence_writes}
@@ -63,9 +62,6 @@ follow-push steps b all one = EveryAfter-append _ [] steps _ all (one, tt)
 
 fence_serialises : (i : Option Instr) → is_fence_i i ≡ true → is_serialising i ≡ true
 fence_serialises i h = grind arith
-
-is_fence : (i : Option Instr) → is_fence_i i ≡ true → i ≡ Some FenceI
-is_fence i h = grind arith
 
 no_kind_no_store : (i : Option Instr) → kind_of_word i ≡ None → is_store i ≡ false
 no_kind_no_store i h = grind arith
@@ -184,10 +180,6 @@ module _ (v : Values) (now : ℕ) (earlier : List Step) where
         (λ e rest at is. record { fetched = is.fetched; dispatched = is.dispatched; reason = why e rest at }) p.next;
   }
 
-  unfinished_since : (n D : ℕ) (i : Option Instr) (st : Stage) → is_serialising i ≡ false → broadcast_of st ≡ None →
-      IsKnownSince n i D st
-  unfinished_since n D i st plain given = grind (arith, not_both)
-
   module _ (k : ℕ) (c : Committing) (e : Entry) (es : List Entry) (head : Head set.contains c e es) (q : InCommit c)
       (p : Going k c) where
     s : ℕ
@@ -197,10 +189,7 @@ module _ (v : Values) (now : ℕ) (earlier : List Step) where
     head_sound = (subst (Each (SoundEntry v now now now)) head.place q.basics.entries).0
 
     head_next : NextEntry now (last_stamp (earlier ++ c.steps)) (has_step (earlier ++ c.steps)) c.hardware.stale e
-    head_next = subst
-        (λ l. Next now now (last_stamp (earlier ++ c.steps))
-        (has_step (earlier ++ c.steps)) c.hardware.stale l c.hardware.front.entries)
-        head.place p.next
+    head_next = grind arith
 
     head_found : Shaped e
     head_found = (subst (Each Shaped) head.place q.basics.always.stores.0.0).0
@@ -212,9 +201,7 @@ module _ (v : Values) (now : ℕ) (earlier : List Step) where
 
     fence_stands : is_fence_i e.instruction ≡ true → (x : Entry) (rest : List Entry) →
         c.hardware.rob.entries ≡ x ∷ rest → HasReason (now + 1) (last_stamp (earlier ++ c.steps)) c.hardware.stale x
-    fence_stands fence x rest at =
-        inr (inr (inl
-        (subst (λ (y : Entry). is_fence_i y.instruction ≡ true) (same_head e x es rest head.place at) fence)))
+    fence_stands fence x rest at = grind arith
 
   turn_leads : (total k : ℕ) (c : Committing) (t : Turn Committing) → CommitTurn set.contains c t → InCommit c →
       Going k c → Leads InCommit InCommit t → Leads (Going (suc k)) Committed t
@@ -226,13 +213,7 @@ module _ (v : Values) (now : ℕ) (earlier : List Step) where
       inr (inl (subst (λ (y : Entry). set.contains c.hardware.stale (word_of y.pc) ≡ true)
       (same_head e x es rest at at') is))) in
       record { follow = same.follow; next = same.next }
-  turn_leads total k c _ (unfinished e es head plain none) q p goes =
-      standing c.stop p
-      (λ x rest at.
-      inr (inr (inr
-      (subst (λ (y : Entry). IsKnownSince (now + 1) y.instruction y.dispatched y.stage)
-      (same_head e x es rest head.place at)
-      (unfinished_since (now + 1) e.dispatched e.instruction e.stage plain none)))))
+  turn_leads total k c _ (unfinished e es head plain none) q p goes = grind arith
   turn_leads total k c _ (fence_waits e es head is busy) q p goes =
       standing c.stop p (fence_stands k c e es head q p (ap is_fence_i is))
   turn_leads total k c _ (fence_writes e es head is drained dirty) q p goes =

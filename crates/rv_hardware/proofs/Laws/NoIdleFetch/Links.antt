@@ -146,10 +146,7 @@ module _ (v : Values) (now : ℕ) (halted : Bool) where
     joint_before : (held : ℕ → ℕ) (x : Mark) (xs zs : List Mark) →
         Joint v now (IsOpen v halted now) held x (xs ++ m ∷ zs) →
         Joint v now (IsOpen v halted now) held x (xs ++ n ∷ zs)
-    joint_before held x [] zs h =
-        subst (λ t. (t ≤ now) ×
-        (IsBy x.retired t ⊎ ((v.recovery ≡ Early) × (x.broadcast ≡ Some t)) ⊎ Filled v held x t))
-        g.fetched h
+    joint_before held x [] zs h = grind arith
     joint_before held x (y ∷ ys) zs h = h
 
     linked_goes : (held : ℕ → ℕ) (xs zs : List Mark) → Linked v now (IsOpen v halted now) held (xs ++ m ∷ zs) →

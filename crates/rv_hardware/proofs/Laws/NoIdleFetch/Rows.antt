@@ -1,15 +1,14 @@
 -- In every history each mark shows why the next was not fetched earlier.
-use Rattle.rv_hardware.proofs.Words.{◌≡◌, ℕ, ◌+◌, ◌-◌, ◌<◌, ◌≤◌, true, false, ◌⊎◌, List, [], ◌∷◌, ◌++◌, map, length}
-use Rattle.rv_hardware.proofs.Words.{Some, None, Option, sym, refl, ap, ◌∙◌, subst, inl, inr, true≢false, append-nil}
-use Rattle.rv_hardware.proofs.Words.{arith, length-append, cases_lt, Lines, Early, Values, due, Each, FetchBuffer}
-use Rattle.rv_hardware.proofs.Words.{Fetched, Committing, IsCycle, any_prediction, execute, with_lines, Dispatching}
-use Rattle.rv_hardware.proofs.Words.{Hardware, Report, rows_of, Row, Step, count, each_image, each_then}
+use Rattle.rv_hardware.proofs.Words.{◌≡◌, ℕ, ◌+◌, ◌-◌, ◌≤◌, true, false, ◌⊎◌, List, [], ◌∷◌, ◌++◌, map, length, Some}
+use Rattle.rv_hardware.proofs.Words.{sym, refl, ap, ◌∙◌, subst, inl, inr, true≢false, append-nil, arith, length-append}
+use Rattle.rv_hardware.proofs.Words.{Lines, Early, Values, due, Each, FetchBuffer, Fetched, IsCycle, any_prediction}
+use Rattle.rv_hardware.proofs.Words.{with_lines, Hardware, Report, rows_of, Row, Step, count, each_image, each_then}
 use Rattle.std.specs.FinSet as set
-use Rattle.rv_hardware.proofs.Marks.Cited.{fetch-cases, IsNew, count-as_of, Passed, History, began, went_on}
-use Rattle.rv_hardware.proofs.Marks.Cited.{is_buffered_mark, buffered_words, committing, issued_all, dispatching}
-use Rattle.rv_hardware.proofs.Marks.Cited.{cycle_passes, history_is_legal, history_is_sound, Mark, mark_of_row}
-use Rattle.rv_hardware.proofs.Marks.Cited.{mark_of_entry, mark_of_fetched, marks_in, marks, marks_at_entry, as_of_now}
-use Rattle.rv_hardware.proofs.Marks.Cited.{marks_settled, SoundRow, SoundFetched}
+use Rattle.rv_hardware.proofs.Marks.Cited.{IsNew, count-as_of, Passed, History, began, went_on, is_buffered_mark}
+use Rattle.rv_hardware.proofs.Marks.Cited.{buffered_words, committing, issued_all, dispatching, cycle_passes}
+use Rattle.rv_hardware.proofs.Marks.Cited.{history_is_legal, history_is_sound, Mark, mark_of_row, mark_of_entry}
+use Rattle.rv_hardware.proofs.Marks.Cited.{mark_of_fetched, marks_in, marks, marks_at_entry, as_of_now, marks_settled}
+use Rattle.rv_hardware.proofs.Marks.Cited.{SoundRow, SoundFetched}
 use Rattle.rv_hardware.proofs.Laws.NoIdleFetch.Links.{with_word, IsBy, Followed, IsOpen, Linked, LastIs, held_after}
 use Rattle.rv_hardware.proofs.Laws.NoIdleFetch.Links.{held_count, WasLinked, was_linked_kept, linked_stays, linked_on}
 use Rattle.rv_hardware.proofs.Laws.NoIdleFetch.Links.{linked_cut, linked_words, last_at}
@@ -34,13 +33,7 @@ no_rest xs (y ∷ ys) all one = absurd (let both = length-append xs (y ∷ ys) i
 pub stays_halted : {lines : Lines} {old new : Hardware} {report : Report} →
     IsCycle any_prediction lines old report new → (dispatching lines old).hardware.front.halted ≡ true →
     new.front ≡ (dispatching lines old).hardware.front
-stays_halted {lines} {old} {new} {report} is =
-    let same : is.dispatching ≡ dispatching lines old =
-    is.executes ∙ ap (λ (c : Committing). execute c.hardware) is.commits in
-    subst (λ (d : Dispatching). d.hardware.front.halted ≡ true → new.front ≡ d.hardware.front) same
-    (fetch-cases any_prediction is.dispatching.hardware.cache.backing old.cycle is.dispatching.hardware.front
-    new.front is.fetch_stop
-    (λ halted stays h. stays) (λ runs adds h. absurd (true≢false (sym h ∙ runs))) is.fetches)
+stays_halted {lines} {old} {new} {report} is = grind arith
 
 module _ (v : Values) {earlier : List Step} {old new : Hardware} {lines : Lines} {report : Report}
     (before : History v earlier old) (is : IsCycle any_prediction lines old report new)
@@ -158,19 +151,8 @@ module _ (v : Values) {earlier : List Step} {old new : Hardware} {lines : Lines}
         IsOpen v old.front.halted old.cycle h x → IsOpen v new.front.halted (old.cycle + 1) h x
     stays_open full h x same (inl halted) =
         inl (ap (λ (r : FetchBuffer). r.halted) (stays_halted is (uncut.1 ∙ halted)) ∙ uncut.1 ∙ halted)
-    stays_open full h x same (inr (inl over)) = inr (inl (by_later x.retired over))
-      where
-        by_later : (o : Option ℕ) → IsBy o old.cycle → IsBy o (old.cycle + 1)
-        by_later None by = by
-        by_later (Some c) by = omega (arith, by)
-    stays_open full h x same (inr (inr filled)) =
-        inr (inr (λ c after earlier. by_cycle c after (cases_lt c old.cycle) earlier))
-      where
-        by_cycle : (c : ℕ) → x.fetched < c → (c < old.cycle) ⊎ (old.cycle ≤ c) → c < old.cycle + 1 →
-            v.fetch_buffer ≤ with_word h x c
-        by_cycle c after (inl lt) earlier = filled c after lt
-        by_cycle c after (inr le) earlier =
-            let at : c ≡ old.cycle = omega (arith, le, earlier) in rw at (omega (arith, full, same))
+    stays_open full h x same (inr (inl over)) = grind arith
+    stays_open full h x same (inr (inr filled)) = grind arith
 
     goes_on : (fs : List Fetched) → passed.fetches.added ≡ fs → Next (marks_in all d ++ map mark_of_fetched fs)
     goes_on [] at = rw (append-nil (marks_in all d)) (by_reason (passed.fetches.goes_on at))

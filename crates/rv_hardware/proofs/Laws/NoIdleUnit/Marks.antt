@@ -6,7 +6,6 @@ use Rattle.rv_hardware.proofs.Words.{sources_of_word, Instr, Kind, Values, Each,
 use Rattle.rv_hardware.proofs.Words.{broadcast_of, is_known_from, is_waiting, writes, has_operands, is_ready, last_from}
 use Rattle.rv_hardware.proofs.Words.{last_that, Execution, Row, never_both, EveryAfter, count, count-set-grows}
 use Rattle.rv_hardware.proofs.Words.{Each-append}
-use Rattle.rv_hardware.specs.InFlight.{is_known}
 use Rattle.rv_hardware.proofs.Marks.Cited.{IsBefore, writes_mark, IsKnownMark, OperandsKnown, Advances, mark_is_sent}
 use Rattle.rv_hardware.proofs.Marks.Cited.{Kept, last_from-append, Mark, mark_of_row, mark_of_entry, mark_of_fetched}
 use Rattle.rv_hardware.proofs.Marks.Cited.{broadcast_of_stage, marks_append, start_of_execution, start_of_stage}
@@ -150,11 +149,7 @@ module _ (v : Values) (k : Kind) (now : ℕ) where
   operands_by d i j rows older [] sound plain h = refl
   operands_by d i j rows older (None ∷ sources) sound plain h = operands_by d i j rows older sources sound plain h.1
   operands_by d i j rows older (Some register ∷ sources) sound plain h =
-      and_from (is_known older register) (has_operands older sources)
-      (known_from d i j register true
-      (last_from None (writes_mark register) (map mark_of_row rows)) older sound plain (λ k. refl)
-      (rw (last_from-append None (writes_mark register) (map mark_of_row rows) (map mark_of_entry older)) at h.0))
-      (operands_by d i j rows older sources sound plain h.1)
+      grind (arith, known_from, last_from-append, operands_by d i j rows older sources sound plain h.1)
 
   loads_by : (b c : Bool) → b ≡ false → (not b || c) ≡ true
   loads_by b c is = grind arith

@@ -1,15 +1,14 @@
 -- The issue phase leaves no pipelined unit idle, and the other phases keep it so.
-use Rattle.rv_hardware.proofs.Words.{◌≡◌, ℕ, suc, ◌+◌, ◌<◌, ◌≤◌, true, false, List, [], ◌∷◌, ◌++◌, map, length, nat_lt}
-use Rattle.rv_hardware.proofs.Words.{nat_le, Some, None, sym, refl, ap, ◌∙◌, subst, append_assoc, append-nil, arith}
-use Rattle.rv_hardware.proofs.Words.{ltb-false, le-ltb, eq-eqb, and_from, and_right, at_kind-for_each, with_kind-each}
-use Rattle.rv_hardware.proofs.Words.{with_kind-other, with_kind-own, IsLegal, is_of_kind, kind_of_word, at_kind}
-use Rattle.rv_hardware.proofs.Words.{for_each, with_kind, Issue, Lines, Kind, PerKind, Values, Each, Pool, free_pool}
-use Rattle.rv_hardware.proofs.Words.{holding, holds_unit, started, Entry, with_lines, Hardware, cost_of, is_ready}
-use Rattle.rv_hardware.proofs.Words.{issue, issue_kind, issue_turn, issued, path, Turn, Report, rows_of, Step}
-use Rattle.rv_hardware.proofs.Words.{Each-append, Each-left, Each-all, Each-filter, EveryAfter, count}
+use Rattle.rv_hardware.proofs.Words.{◌≡◌, ℕ, suc, ◌+◌, ◌<◌, ◌≤◌, true, false, List, [], ◌∷◌, ◌++◌, map, length, Some}
+use Rattle.rv_hardware.proofs.Words.{None, sym, refl, ap, ◌∙◌, subst, append_assoc, append-nil, arith, ltb-false}
+use Rattle.rv_hardware.proofs.Words.{at_kind-for_each, with_kind-each, with_kind-other, with_kind-own, IsLegal}
+use Rattle.rv_hardware.proofs.Words.{is_of_kind, at_kind, for_each, with_kind, Issue, Lines, Kind, PerKind, Values}
+use Rattle.rv_hardware.proofs.Words.{Each, Pool, free_pool, holding, holds_unit, started, Entry, with_lines, Hardware}
+use Rattle.rv_hardware.proofs.Words.{cost_of, is_ready, issue, issue_kind, issue_turn, issued, path, Turn, Report}
+use Rattle.rv_hardware.proofs.Words.{rows_of, Step, Each-append, Each-left, Each-all, Each-filter, EveryAfter, count}
 use Rattle.rv_hardware.proofs.Words.{count-set-one_more, EveryAfter-append, EveryAfter-right, EveryAfter-moved}
 use Rattle.rv_hardware.proofs.Words.{EveryAfter-all, EveryAfter-weaker, Leads, turns_within, length-filter}
-use Rattle.rv_hardware.proofs.Words.{count-count_by, count-length, each_then, Bool}
+use Rattle.rv_hardware.proofs.Words.{count-count_by, count-length, each_then}
 use Rattle.std.specs.FinSet as set
 use Rattle.rv_isa.specs.declared.operations.Kind.TheVariants as kind
 use Rattle.rv_units.specs.Pool.{started as started_unit}
@@ -25,7 +24,7 @@ use Rattle.rv_hardware.proofs.Marks.Cited.{dispatch_keeps, AreSerialLast, cut_se
 use Rattle.rv_hardware.proofs.Marks.Cited.{older_marks, IsKnownMark}
 use Rattle.rv_hardware.proofs.Laws.NoIdleUnit.Marks.{MayStart, BusyUnits, may_back, busy_units_are_kept}
 use Rattle.rv_hardware.proofs.Laws.NoIdleUnit.Marks.{rows_do_not_start, words_do_not_start, entries_do_not_start}
-use Rattle.rv_hardware.proofs.Laws.OtherUnits.Rows.{starts_at, begins_mark}
+use Rattle.rv_hardware.proofs.Laws.OtherUnits.Rows.{begins_mark}
 use Rattle.rv_hardware.proofs.Laws.OtherUnits.Phases.{issued_units}
 
 -- every start of a pipelined kind was over by a cycle
@@ -34,9 +33,7 @@ Over now pool = Each (λ s. s.cycle + s.cost ≤ now) pool.starts
 
 none_holds : (now : ℕ) (starts : List Issue) → Each (λ s. s.cycle + s.cost ≤ now) starts → holding now starts ≡ []
 none_holds now [] h = refl
-none_holds now (s ∷ ss) h =
-    rw (and_right (nat_le s.cycle now) (nat_lt now (s.cycle + s.cost)) (le-ltb now (s.cycle + s.cost) h.0))
-    (none_holds now ss h.1)
+none_holds now (s ∷ ss) h = grind (arith, none_holds now ss h.1)
 
 fewer_held : (now : ℕ) (xs : List Issue) → length (holding now (holding now xs)) ≤ length (holding now xs)
 fewer_held now xs =
@@ -120,13 +117,7 @@ module _ {v : Values} (legal : IsLegal v) (now : ℕ) (steps : List Step) (k : K
     -- and has one more before it that did
     one_more : (mid : List Mark) →
         count (begins_mark k now) ((xs ++ n ∷ []) ++ mid) ≡ suc (count (begins_mark k now) ((xs ++ m ∷ []) ++ mid))
-    one_more mid =
-        let of_kind : Bool = is_of_kind k (kind_of_word e.instruction) in
-        let begins = eq-eqb h.cycle now p.0.basics.cycle in
-        rw (append_assoc xs (n ∷ []) mid, append_assoc xs (m ∷ []) mid)
-        (count-set-one_more (begins_mark k now) xs mid m n
-        (and_right of_kind (starts_at now m.start) (ap (starts_at now) evidence.not_yet))
-        (and_from of_kind (starts_at now n.start) (ready-parts h k older e is).of_kind begins))
+    one_more mid = grind (arith, append_assoc, count-set-one_more, ready-parts)
 
     after_start : AreBusy (suc j) (issued k h older e)
     after_start =

@@ -8,11 +8,11 @@ use Rattle.rv_hardware.proofs.Words.{started, Entry, Hardware, cost_of, issued, 
 use Rattle.rv_hardware.proofs.Words.{Each-filter, count, count-append, count-yes, count-length, count-set-same}
 use Rattle.rv_hardware.proofs.Words.{count-set-more, count-set-less, count-push-no, each_then, Each-append}
 use Rattle.rv_units.specs.Pool.{started as started_unit}
-use Rattle.rv_hardware.proofs.Marks.Cited.{IsKeptByBroadcast, IsKeptByCommit, IsKeptByDispatch, IsReady, ready-parts}
-use Rattle.rv_hardware.proofs.Marks.Cited.{InCycle, IsKeptInCycle, in_cycle, finished_mark, dispatched_mark}
-use Rattle.rv_hardware.proofs.Marks.Cited.{is_waiting_is, History, began, went_on, dispatching, history_passes}
-use Rattle.rv_hardware.proofs.Marks.Cited.{access_keeps, message_at, started_entries, is_of_kind_is, Mark, Start}
-use Rattle.rv_hardware.proofs.Marks.Cited.{mark_of_entry, start_of_issue, start_of_stage}
+use Rattle.rv_hardware.proofs.Marks.Cited.{IsKeptByBroadcast, IsKeptByDispatch, IsReady, ready-parts, InCycle}
+use Rattle.rv_hardware.proofs.Marks.Cited.{IsKeptInCycle, in_cycle, finished_mark, dispatched_mark, is_waiting_is}
+use Rattle.rv_hardware.proofs.Marks.Cited.{History, began, went_on, dispatching, history_passes, access_keeps}
+use Rattle.rv_hardware.proofs.Marks.Cited.{message_at, started_entries, is_of_kind_is, Mark, Start, mark_of_entry}
+use Rattle.rv_hardware.proofs.Marks.Cited.{start_of_stage}
 
 -- an execution holds a unit in a cycle
 abbrev pub start_holds : Bool → ℕ → Option Start → Bool
@@ -115,14 +115,9 @@ pub all_fewer : (v : Values) (now : ℕ) (g h : Hardware) → g.units ≡ h.unit
     count (λ e. holds_mark v k c (mark_of_entry e)) g.rob.entries ≤
     count (λ e. holds_mark v k c (mark_of_entry e)) h.rob.entries) →
     AllHeld v now h → AllHeld v now g
-all_fewer v now g h units less held k =
-    subst (λ u. Held v now k (at_kind k u) g.rob.entries) (sym units)
-    (held_fewer v now k (at_kind k h.units) h.rob.entries g.rob.entries (less k) (held k))
+all_fewer v now g h units less held k = grind arith
 
 -- commit
-
-units_commit : (v : Values) (now : ℕ) → IsKeptByCommit (AllHeld v now)
-units_commit v now = grind (arith, all_fewer, count-append)
 
 -- issue
 
@@ -145,13 +140,7 @@ module _ (v : Values) (now : ℕ) where
     -- where its mark holds a unit, its start in the pool does
     holds_here : (c : ℕ) → holds_mark v k c (mark_of_entry begun_here) ≡ true →
         holds_unit c (start_in (at_kind k h.units) now cost_here) ≡ true
-    holds_here c held =
-        let begins : Start = start_of_issue (record { cycle = h.cycle; cost = cost_here }) (message_at h older e) in
-        let of_start = and_second (is_of_kind k (kind_of_word e.instruction))
-        (start_holds (at_kind k v.kinds).pipelined c (Some begins)) held in
-        subst (λ n. holds_unit c (start_in (at_kind k h.units) n cost_here) ≡ true) p.0.1
-        (subst (λ b. holds_unit c (record { cycle = h.cycle; cost = held_for b cost_here }) ≡ true)
-        (sym (p.0.0.pipelined k)) of_start)
+    holds_here c held = grind arith
 
     same_kind : Held v now k (started_unit cost_here h.cycle (at_kind k h.units)) (older ++ begun_here ∷ younger)
     same_kind =
@@ -188,15 +177,7 @@ units_dispatch v now = grind (arith, all_fewer, count-push-no, dispatched_mark, 
 
 -- each phase of a cycle keeps it that all units are held within their number
 pub units_kept : (v : Values) (now : ℕ) → IsKeptInCycle v now (AllHeld v now)
-units_kept v now = record {
-  lines = λ h levels held. held;
-  commit = units_commit v now;
-  drain = record { leaves = λ h held idle. held; drains = λ h access held idle is. held };
-  issue = λ k h older younger e here held at is free.
-      started_units v now younger at (ready-parts h k older e is) free (here, held);
-  broadcast = units_broadcast v now;
-  dispatch = units_dispatch v now;
-}
+units_kept v now = grind (arith, started_units, ready-parts, units_broadcast, units_dispatch)
 
 units_at_reset : (v : Values) (k : Kind) → Held v 0 k (at_kind k (for_each free_pool v.kinds)) []
 units_at_reset v k =

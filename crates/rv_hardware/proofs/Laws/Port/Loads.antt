@@ -1,10 +1,9 @@
 -- The cache's port serves one load at a time.
-use Rattle.rv_hardware.proofs.Words.{is_known as is_known_store, ◌≡◌, ℕ, ◌+◌, ◌≤◌, Bool, true, false, cond, not, ◌&&◌}
-use Rattle.rv_hardware.proofs.Words.{◌||◌, List, ℤ, is_some, IfSome, ◌==◌, Some, Option, refl, true≢false, arith}
-use Rattle.rv_hardware.proofs.Words.{eq-eqb, leb-true, list_all, is_load, bytes_of, width_of, modulo_word, sum, Instr}
-use Rattle.rv_hardware.proofs.Words.{Load, Kind, LoadForm, Values, is_aligned, is_in_ram, State, register_of, Entry}
-use Rattle.rv_hardware.proofs.Words.{Hardware, FromCache, FromStores, Path, cost_of, has_port, may_load, path, path_of}
-use Rattle.rv_hardware.proofs.Words.{with_access, result_of_word, layout_of, state_after, stores_after, take, forwarded}
+use Rattle.rv_hardware.proofs.Words.{◌≡◌, ℕ, ◌+◌, ◌≤◌, Bool, true, false, cond, not, ◌&&◌, List, ℤ, is_some, IfSome}
+use Rattle.rv_hardware.proofs.Words.{◌==◌, Some, Option, refl, true≢false, arith, eq-eqb, leb-true, is_load, bytes_of}
+use Rattle.rv_hardware.proofs.Words.{width_of, modulo_word, sum, Instr, Load, Kind, LoadForm, Values, is_aligned}
+use Rattle.rv_hardware.proofs.Words.{is_in_ram, State, register_of, Entry, Hardware, FromCache, FromStores, Path}
+use Rattle.rv_hardware.proofs.Words.{cost_of, has_port, may_load, path, path_of, with_access, result_of_word, layout_of}
 use Rattle.rv_hardware.proofs.Words.{sym, sym}
 use Rattle.rv_hardware.proofs.Marks.Cited.{Mark, Start, HasShape}
 
@@ -42,13 +41,7 @@ module _ (v : Values) (h : Hardware) (shape : HasShape v h) (older : List Entry)
       is_some (result_of_word (layout_of h.values) s h.lines w (Some (Load form rd rs1 offset))).fault ≡ false →
       ((cost_of h k (path_of h older s (Some (Load form rd rs1 offset))) == v.forward) ≡ false) →
       Goes_to_cache (Some (Load form rd rs1 offset))
-  load_path form rd rs1 offset true true aligned inside (Some w) none other =
-      rw (aligned, inside)
-      (from_cache
-      (list_all is_some
-      (take (bytes_of (width_of form))
-      (forwarded (stores_after h older) (sum (register_of s rs1) (modulo_word offset)) (bytes_of (width_of form)))))
-      (sum (register_of s rs1) (modulo_word offset)) (rw (aligned, inside) at other))
+  load_path form rd rs1 offset true true aligned inside (Some w) none other = grind (arith, from_cache)
   load_path form rd rs1 offset a b aligned inside w none other = grind (arith, true≢false)
 
   -- a load without a fault that costs another time than a forwarded one goes to the cache
@@ -59,20 +52,10 @@ module _ (v : Values) (h : Hardware) (shape : HasShape v h) (older : List Entry)
       load_path form rd rs1 offset _ _ refl refl w none other
   path_of_user i w load none other = absurd (true≢false (sym load))
 
--- an instruction that may leave has the port that it needs
-path_without : (h : Hardware) (older : List Entry) (s : State) (i : Option Instr) → is_load i ≡ false →
-    has_port h (path_of h older s i) ≡ true
-path_without h older s i plain = grind arith
-
-port_by : {b : Bool} (c : Bool) {d : Bool} → (b ≡ false → d ≡ true) → (not b || (c && d)) ≡ true → d ≡ true
-port_by c f h = grind arith
-
 -- an instruction that may leave its station has the port that its path needs
 pub has_its_port : (h : Hardware) (older : List Entry) (e : Entry) → may_load h older e ≡ true →
     has_port h (path h older e) ≡ true
-has_its_port h older e may =
-    port_by (list_all is_known_store (stores_after h older))
-    (λ plain. path_without h older (state_after h older e.pc) e.instruction plain) may
+has_its_port h older e may = grind arith
 
 -- the port is not free earlier
 pub port_grows : (h : Hardware) (p : Path) → has_port h p ≡ true → h.port_free ≤ (with_access p h).port_free

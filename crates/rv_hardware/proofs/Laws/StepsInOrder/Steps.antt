@@ -85,10 +85,7 @@ module _ (v : Values) (now : ℕ) (earlier : List Step) (before : Each (λ s. st
         (Each-left _ earlier _ anew)
 
     from_now : Each (λ a. InOrder a s) c.steps
-    from_now =
-        Each-both (λ a. (stamp_of a ≡ now) × Plain a) (λ a h new. grind (arith, true≢false)) c.steps
-        (Each-both (λ a. stamp_of a ≡ now) (λ a e f. (e, f)) c.steps p.steps.of_now p.plain)
-        (Each-right _ earlier _ anew)
+    from_now = grind (arith, Each-both)
 
     more_pairs : EveryPair InOrder (earlier ++ (c.steps ++ s ∷ []))
     more_pairs = grind (arith, pair_moves, each_moves, regroup, from_earlier, from_now)
@@ -333,9 +330,7 @@ module _ (v : Values) (legal : IsLegal v) (earlier : List Step) (old new : Hardw
         ap (λ l. length l) passed.steps,
         committed.within,
       )
-  none_of_now c false e =
-      let none = count-none (λ s. stamp_of s == c) _ (each_then (λ s at. rw at e) _ steps_of_cycle) in
-      omega (arith, none, count-append (λ s. stamp_of s == c) earlier report.steps, past.width c)
+  none_of_now c false e = grind (arith, count-none, each_then, steps_of_cycle, count-append)
 
   pub steps_go_on : StepsPast v so_far new
   steps_go_on =

@@ -1,7 +1,7 @@
 use Rattle.std.proofs.Common.{subst, arith, ◌∙◌, sym}
 use Rattle.std.proofs.lemmas.Bool.{ltb-false, ltb-true}
-use Rattle.rv_job.specs.Comparison.{AreLoaded, RefusesComparison, RefusesDescriptions}
-use Rattle.rv_job.specs.Comparison.{RefusesLoading, most_machines, separator_count}
+use Rattle.rv_job.specs.Comparison.{RefusesComparison, RefusesDescriptions, RefusesLoading, most_machines}
+use Rattle.rv_job.specs.Comparison.{separator_count}
 use Rattle.rv_job.proofs.SeparatorCount.{jobs_few}
 use Rattle.rv_job.proofs.HandedOn.{refused_on}
 use Rattle.rv_job.proofs.comparison.read_comparison.Goals as goal
@@ -31,28 +31,10 @@ returns-in_err-jobs-clause-refused c =
     c.as_slice.ensures.value c.in_err-jobs.ensures.refused))
 
 pub returns-clause-few : goal.returns-clause-few
-returns-clause-few c =
-    jobs_few c.in_ok-descriptions.ensures.machines
-    (subst (λ machines. AreLoaded c.in_ok-descriptions.program.now machines c.in_ok-jobs.jobs.items)
-    c.as_slice.ensures.value c.in_ok-jobs.ensures.jobs)
-    (ltb-false most_machines (separator_count c.args.text.now) (sym c.has_too_many.ensures ∙ c.if-has_too_many.false))
+returns-clause-few c = grind (arith, jobs_few, ltb-false)
 
 pub returns-in_default-clause-refused : goal.returns-in_default-clause-refused
 returns-in_default-clause-refused c =
     RefusesComparison.descriptions (omega (arith, c.if-text-gt-MOST_BYTES.false))
     (ltb-false most_machines (separator_count c.args.text.now) (sym c.has_too_many.ensures ∙ c.if-has_too_many.false))
     RefusesDescriptions.memory
-
-pub returns-clause-comparison : goal.returns-clause-comparison
-returns-clause-comparison c = record {
-  length = omega (arith, c.if-text-gt-MOST_BYTES.false);
-  number = ltb-false most_machines (separator_count c.args.text.now) (sym c.has_too_many.ensures
-      ∙ c.if-has_too_many.false);
-  machines = c.in_ok-descriptions.descriptions.items;
-  program = c.in_ok-descriptions.program.now;
-  compares = c.in_ok-descriptions.ensures.machines;
-  loaded =
-      subst (λ machines. AreLoaded c.in_ok-descriptions.program.now machines c.in_ok-jobs.jobs.items)
-      c.as_slice.ensures.value c.in_ok-jobs.ensures.jobs;
-  names = c.in-Ok.ensures;
-}

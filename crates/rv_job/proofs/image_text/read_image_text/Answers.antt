@@ -22,12 +22,3 @@ returns-in-Err-clause-refused c =
     rw (← parts_are) c.in_ok-description.ensures.machine in
     assembly c.in_ok-parts.ensures.length described
     (rw (← parts_are, ← c.values.ensures.values) c.in-Err.ensures.refused)
-
-pub returns-in-Ok-clause-image : goal.returns-in-Ok-clause-image
-returns-in-Ok-clause-image c =
-    let parts_are = c.in_ok-parts.ensures.parts in
-    record {
-      length = c.in_ok-parts.ensures.length;
-      description = rw (← parts_are) c.in_ok-description.ensures.machine;
-      image = rw (← parts_are, ← c.values.ensures.values) c.in-Ok.ensures.image;
-    }

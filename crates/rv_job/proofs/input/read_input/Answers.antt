@@ -1,14 +1,7 @@
-use Rattle.std.proofs.Common.{◌+◌, ◌++◌, ◌∙◌, take, sym, ap, append-nil, length-take, arith}
-use Rattle.std.proofs.lemmas.Grind.{common_steps}
+use Rattle.std.proofs.Common.{◌+◌, ◌++◌, ◌∙◌, take, ap, append-nil, length-take, arith}
 use Rattle.rv_job.specs.Input.{most_bytes}
-use Rattle.rv_job.proofs.Reading.{Consumes-nothing, Consumes-both, Consumes-same, taken_to_end, taken_most}
+use Rattle.rv_job.proofs.Reading.{Consumes-both, Consumes-same, taken_to_end, taken_most}
 use Rattle.rv_job.proofs.input.read_input.Goals as goal
-
-pub loop-chunk-init : goal.loop-chunk-init
-loop-chunk-init g c = record {
-  in_range = omega (arith, c.new-input.ensures.len);
-  consumed = Consumes-same _ _ _ _ (sym c.new-input.ensures.items) (Consumes-nothing _);
-}
 
 pub returns-then-count-eq0 : goal.returns-then-count-eq0
 returns-then-count-eq0 g c =
@@ -42,11 +35,3 @@ returns g c =
       taken = consumed;
       lost = tt;
     }
-
-pub loop-chunk-preserved : goal.loop-chunk-preserved
-loop-chunk-preserved g c = record {
-  in_range = grind (arith, common_steps);
-  consumed =
-      Consumes-same _ _ _ _ (sym c.in-Ok-extend_from_slice.ensures.items)
-      (Consumes-both _ _ _ _ _ c.loop-chunk.invariant.consumed c.in-Ok.ensures.bytes.0);
-}

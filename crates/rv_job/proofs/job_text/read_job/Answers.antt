@@ -11,15 +11,3 @@ returns-in-Err-clause-refused c =
 
 assembled : (c : In-Ok) → Assembles c.args.text.now c.in_ok-read.read.description c.in-Ok.image
 assembled c = rw (← c.in_ok-read.ensures.assembly, ← c.values-values.ensures.values) c.in-Ok.ensures.image
-
-pub returns-in-Ok-clause-job : goal.returns-in-Ok-clause-job
-returns-in-Ok-clause-job c =
-    let read = c.in_ok-read.ensures in
-    c.job_of.ensures.job c.args.text.now read.length read.machine read.arrivals
-    (assembled (goal.at.returns-in-Ok-clause-job c).In-Ok)
-
-pub returns-in-Ok-clause-refused : goal.returns-in-Ok-clause-refused
-returns-in-Ok-clause-refused c =
-    let read = c.in_ok-read.ensures in
-    c.job_of.ensures.refused c.args.text.now read.length read.machine read.arrivals
-    (assembled (goal.at.returns-in-Ok-clause-refused c).In-Ok)

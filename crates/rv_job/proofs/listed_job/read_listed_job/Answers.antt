@@ -14,12 +14,6 @@ returns-in_err-listed-clause-refused c =
 assembled : (c : In_ok-listed) → Assembles c.args.text.now c.in_ok-read.read.description c.in_ok-listed.listed.image
 assembled c = rw (← c.in_ok-read.ensures.assembly, ← c.values-values.ensures.values) c.in_ok-listed.ensures.image
 
-pub returns-in-Err-clause-refused : goal.returns-in-Err-clause-refused
-returns-in-Err-clause-refused c =
-    let read = c.in_ok-read.ensures in
-    c.in-Err.ensures.refused c.args.text.now read.length read.machine read.arrivals
-    (assembled (goal.at.returns-in-Err-clause-refused c).In_ok-listed)
-
 pub returns-in-Ok-clause-job : goal.returns-in-Ok-clause-job
 returns-in-Ok-clause-job c =
     let read = c.in_ok-read.ensures in

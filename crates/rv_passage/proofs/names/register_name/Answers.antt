@@ -13,10 +13,7 @@ few_letters letters few = grind (arith, nat_tests)
 short-name : (names : List (List ℕ)) (number : ℕ) → list_all (λ name. nat_le (length name) 4) names ≡ true →
     length (get_or names number []) ≤ 4
 short-name [] number all = omega arith
-short-name (n ∷ names) zero all = elim (cases_Bool (nat_le (length n) 4)) [
-  | inl few ↦ few_letters (length n) few
-  | inr many ↦ let none : false ≡ true = rw many at all in cc
-]
+short-name (n ∷ names) zero all = grind arith
 short-name (n ∷ names) (suc number) all = elim (cases_Bool (nat_le (length n) 4)) [
   | inl few ↦
       let rest : list_all (λ name. nat_le (length name) 4) names ≡ true = rw few at all in

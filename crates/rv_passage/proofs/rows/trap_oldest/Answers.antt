@@ -1,4 +1,4 @@
-use Rattle.std.proofs.Common.{◌∙◌, ap, set, sym}
+use Rattle.std.proofs.Common.{◌∙◌, ap, set, sym, arith}
 use Rattle.rv_passage.specs.Passage.{trapped_by}
 use Rattle.rv_passage.specs.declared.passage.Passage.{Passage}
 use Rattle.rv_passage.proofs.Moving.{with_oldest-at, with_oldest-none}
@@ -12,6 +12,4 @@ returns-in-Some c =
     ∙ sym (with_oldest-at change c.args.rows.now c.in-Some.place c.index-rows-place.result place)
 
 pub returns-in_default : goal.returns-in_default
-returns-in_default c =
-    sym (with_oldest-none (trapped_by c.args.cause c.args.cycle) c.args.rows.now
-    (sym c.oldest_in_flight.ensures ∙ c.in_default.is))
+returns-in_default c = grind (arith, with_oldest-none)

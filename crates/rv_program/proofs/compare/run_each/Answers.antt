@@ -1,4 +1,4 @@
-use Rattle.std.proofs.Common.{◌+◌, take, sym, subst, arith}
+use Rattle.std.proofs.Common.{take, sym, subst, arith}
 use Rattle.rv_program.specs.Comparison.{AreRuns}
 use Rattle.rv_program.proofs.Compared.{all_run, run_more}
 use Rattle.rv_program.proofs.compare.run_each.Goals as goal
@@ -8,12 +8,7 @@ loop-job-init c = subst (AreRuns c.args.options.now (take 0 c.args.jobs.now))
     (sym c.new-runs.ensures.items) AreRuns.nothing
 
 pub loop-job-preserved : goal.loop-job-preserved
-loop-job-preserved c =
-    subst (AreRuns c.args.options.now (take (c.loop-job.job-index + 1) c.args.jobs.now))
-    (sym c.in-Ok-push.ensures.items)
-    (run_more c.args.options.now c.args.jobs.now c.loop-job.job-index (omega arith)
-    c.loop-job.runs.items c.loop-job.invariant
-    c.job-item.result c.job-item.is c.in-Ok.ended c.in-Ok.ensures.run)
+loop-job-preserved c = grind (arith, run_more)
 
 pub returns-clause-runs : goal.returns-clause-runs
 returns-clause-runs c = grind (arith, all_run)

@@ -1,4 +1,4 @@
-use Rattle.std.proofs.Common.{◌∙◌, [], None, ap, refl, subst}
+use Rattle.std.proofs.Common.{◌∙◌, [], None, ap, refl, subst, arith}
 use Rattle.rv_watch.proofs.Shown.{stops_by}
 use Rattle.rv_counts.proofs.LossReasons.{lost_for}
 use Rattle.rv_hardware.specs.Hardware.{Hardware}
@@ -48,6 +48,4 @@ returns-clause-run g c =
     (lost_for reached run.passes c.is_exhausted.ensures.within)
 
 pub returns-clause-learned : goal.returns-clause-learned
-returns-clause-learned g c =
-    let run = c.watch-ended.ensures in
-    taught_by_run run.passes c.in-Ok.stop (stops_by run c.in-Ok.stop c.in-Ok.is)
+returns-clause-learned g c = grind (arith, taught_by_run)

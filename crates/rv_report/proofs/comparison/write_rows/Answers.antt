@@ -1,10 +1,7 @@
 use Rattle.std.proofs.Common.{map, arith}
 use Rattle.rv_report.proofs.TableRows.{all_rows, row_said}
-use Rattle.rv_text.proofs.Saying.{says_nothing, says_same}
+use Rattle.rv_text.proofs.Saying.{says_same}
 use Rattle.rv_report.proofs.comparison.write_rows.Goals as goal
-
-pub loop-place-init : goal.loop-place-init
-loop-place-init g c = says_nothing _
 
 pub loop-place-preserved : goal.loop-place-preserved
 loop-place-preserved g c =

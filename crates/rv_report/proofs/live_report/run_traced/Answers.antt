@@ -3,10 +3,6 @@ use Rattle.rv_watch.proofs.Shown.{stops_by}
 use Rattle.rv_report.proofs.LiveReport.{traced_nothing, traced_to_the_end}
 use Rattle.rv_report.proofs.live_report.run_traced.Goals as goal
 
-pub watch-ended-requires-clause-ready : goal.watch-ended-requires-clause-ready
-watch-ended-requires-clause-ready g c =
-    (_, traced_nothing c.default.result (g.W.Write.contents c.args.writer.now) c.default.ensures)
-
 pub returns : goal.returns
 returns g c =
     let run = c.watch-ended.ensures in

@@ -1,4 +1,4 @@
-use Rattle.std.proofs.Common.{◌≡◌, ap, arith}
+use Rattle.std.proofs.Common.{arith}
 use Rattle.rv_hardware.specs.Seen.{layout_of, seen}
 use Rattle.rv_report.specs.Memory.{seen_memory_lines}
 use Rattle.rv_report.proofs.MemoryLines.{line_in, line_is}
@@ -20,8 +20,4 @@ loop-number-preserved g c =
 
 pub returns : goal.returns
 unfolding texts_below seen_memory_lines
-returns g c =
-    let all : c.loop-number.number ≡ c.args.words = omega arith in
-    says_same (ap
-    (texts_below (line_in (layout_of c.args.hardware.now.values) (seen c.args.hardware.now).ram c.args.address))
-    all) c.loop-number.invariant
+returns g c = grind arith

@@ -1,4 +1,4 @@
-use Rattle.std.proofs.Common.{◌≡◌, ap, arith}
+use Rattle.std.proofs.Common.{arith}
 use Rattle.rv_report.specs.Memory.{seen_memory_lines}
 use Rattle.rv_report.proofs.MemoryLines.{line_in, line_is}
 use Rattle.rv_text.proofs.Writing.{texts_below}
@@ -19,7 +19,4 @@ loop-number-preserved g c =
 
 pub returns : goal.returns
 unfolding texts_below seen_memory_lines
-returns g c =
-    let machine = c.args.reference.now in
-    let all : c.loop-number.number ≡ c.args.words = omega arith in
-    says_same (ap (texts_below (line_in machine.layout machine.state.ram c.args.address)) all) c.loop-number.invariant
+returns g c = grind arith

@@ -1,14 +1,8 @@
-use Rattle.std.proofs.Common.{◌∙◌, ◌==◌, ◌++◌, [], ◌∷◌, ap, sym, arith, filter, length, length-append, map}
-use Rattle.std.proofs.lemmas.List.{take_all}
+use Rattle.std.proofs.Common.{◌∙◌, ◌==◌, ◌++◌, [], ◌∷◌, ap, sym, arith, length, length-append}
 use Rattle.std.specs.Prelude.{if◌then◌else◌}
 use Rattle.rv_report.specs.Speculation.{prediction_of_word}
 use Rattle.rv_report.proofs.Speculated.{few-if, picked-more}
 use Rattle.rv_report.proofs.speculation.note_fetched.Goals as goal
-
-pub returns-clause-items : goal.returns-clause-items
-returns-clause-items c =
-    let all = take_all c.loop-place.place c.args.front.now.entries (omega arith) in
-    c.loop-place.invariant.items ∙ ap (λ l. map prediction_of_word (filter (λ f. f.cycle == c.args.cycle) l)) all
 
 pub loop-place-preserved : goal.loop-place-preserved
 loop-place-preserved c =

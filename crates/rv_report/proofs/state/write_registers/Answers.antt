@@ -1,7 +1,7 @@
-use Rattle.std.proofs.Common.{◌≡◌, ℕ, List, slice_index, ap, arith}
+use Rattle.std.proofs.Common.{ℕ, List, slice_index, arith}
 use Rattle.rv_report.specs.State.{register_line, register_lines}
 use Rattle.rv_text.proofs.Writing.{texts_below}
-use Rattle.rv_text.proofs.Saying.{says_below, says_nothing, says_same}
+use Rattle.rv_text.proofs.Saying.{says_below, says_nothing}
 use Rattle.rv_report.proofs.state.write_registers.Goals as goal
 
 -- the line of a register by its number
@@ -18,6 +18,4 @@ loop-number-preserved g c =
 
 pub returns : goal.returns
 unfolding texts_below register_lines
-returns g c =
-    let all : c.loop-number.number ≡ 32 = omega arith in
-    says_same (ap (texts_below (line_in c.args.registers.now)) all) c.loop-number.invariant
+returns g c = grind arith

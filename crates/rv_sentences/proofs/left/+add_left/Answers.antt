@@ -4,9 +4,6 @@ use Rattle.rv_sentences.proofs.CountsGrow.{with_all-last}
 use Rattle.rv_sentences.proofs.LeftGrows.{CanCount, Counts, can_add_fewer, can_add_others, counts_of, outcomes-last}
 use Rattle.rv_sentences.proofs.left.+add_left.Goals as goal
 
-pub add_row-requires : goal.add_row-requires
-add_row-requires t c = grind (arith, can_add_fewer)
-
 pub add_left-requires : goal.add_left-requires
 add_left-requires t c =
     let row = c.in-Some.row.now in

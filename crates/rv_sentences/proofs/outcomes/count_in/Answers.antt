@@ -1,7 +1,6 @@
+use Rattle.std.proofs.Common.{arith}
 use Rattle.rv_sentences.proofs.OutcomesGrow.{no_load}
 use Rattle.rv_sentences.proofs.outcomes.count_in.Goals as goal
 
 pub returns-in-None : goal.returns-in-None
-returns-in-None c =
-    no_load c.args.costs.now c.args.passage.now c.args.words.now c.args.word c.retired_load_cost.result
-    c.retired_load_cost.ensures c.in-None.is
+returns-in-None c = grind (arith, no_load)

@@ -2,10 +2,6 @@ use Rattle.std.proofs.Common.{eq-eqb, ne_eqb}
 use Rattle.rv_sentences.specs.Work.{branches_text}
 use Rattle.rv_sentences.proofs.work.write_branches.Goals as goal
 
-pub returns-then-work-eq0 : goal.returns-then-work-eq0
-unfolding branches_text
-returns-then-work-eq0 g c = rw (eq-eqb c.args.work.now.branches 0 c.if-work-eq0.true) c.put.ensures
-
 pub returns : goal.returns
 unfolding branches_text
 returns g c = rw (ne_eqb c.args.work.now.branches 0 c.if-work-eq0.false) c.write_part.ensures

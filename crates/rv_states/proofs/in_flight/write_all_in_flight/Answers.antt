@@ -1,11 +1,8 @@
 use Rattle.std.proofs.Common.{◌<◌, length, arith}
 use Rattle.rv_states.proofs.Arrays.{given_at}
 use Rattle.rv_states.specs.Cycle.{json_in_flight}
-use Rattle.rv_states.proofs.Given.{given_all, given_none, given_on}
+use Rattle.rv_states.proofs.Given.{given_on}
 use Rattle.rv_states.proofs.in_flight.write_all_in_flight.Goals as goal
-
-pub loop-row-init : goal.loop-row-init
-loop-row-init g c = given_none json_in_flight c.args.rows.now _
 
 pub loop-row-preserved : goal.loop-row-preserved
 loop-row-preserved g c =
@@ -13,6 +10,3 @@ loop-row-preserved g c =
     let more = c.write_if_in_flight-written.ensures in
     given_on json_in_flight c.args.rows.now here c.loop-row.invariant _
     (given_at json_in_flight c.args.rows.now _ c.row-item.result here c.row-item.is) more.said more.count more.few
-
-pub returns : goal.returns
-returns g c = given_all json_in_flight c.args.rows.now (omega arith) c.loop-row.invariant

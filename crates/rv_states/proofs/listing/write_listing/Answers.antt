@@ -1,6 +1,6 @@
-use Rattle.std.proofs.Common.{◌≡◌, ◌/◌, ap, arith}
+use Rattle.std.proofs.Common.{arith}
 use Rattle.rv_states.specs.Listing.{listing_lines, numbered_line}
-use Rattle.rv_text.proofs.Saying.{says_below, says_nothing, says_same}
+use Rattle.rv_text.proofs.Saying.{says_below, says_nothing}
 use Rattle.rv_text.proofs.Writing.{texts_below}
 use Rattle.rv_states.proofs.listing.write_listing.Goals as goal
 
@@ -15,7 +15,4 @@ loop-number-preserved g c =
 
 pub returns : goal.returns
 unfolding texts_below listing_lines
-returns g c =
-    let all : c.loop-number.number ≡ c.args.values.now.ram_size / 4 = omega arith in
-    says_same (ap (texts_below (numbered_line c.args.listing.now c.args.values.now.ram_base)) all)
-    c.loop-number.invariant
+returns g c = grind arith

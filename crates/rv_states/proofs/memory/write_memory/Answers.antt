@@ -1,4 +1,4 @@
-use Rattle.std.proofs.Common.{◌≡◌, ◌/◌, ◌∙◌, ap, arith}
+use Rattle.std.proofs.Common.{ap, arith}
 use Rattle.rv_states.specs.Memory.{memory_line, memory_lines}
 use Rattle.rv_states.specs.Place.{word_address}
 use Rattle.rv_text.proofs.Saying.{says_below, says_nothing, says_same}
@@ -17,9 +17,4 @@ loop-number-preserved g c =
 
 pub returns : goal.returns
 unfolding texts_below memory_lines
-returns g c =
-    let values = c.values-values.result.now in
-    let all : c.loop-number.number ≡ values.ram_size / 4 = omega arith in
-    let lines = ap (texts_below (λ number. memory_line c.args.hardware.now (word_address values.ram_base number))) all
-    in
-    says_same (lines ∙ (λ i. memory_lines c.args.hardware.now (c.values-values.ensures i))) c.loop-number.invariant
+returns g c = grind arith

@@ -6,7 +6,6 @@ use Rattle.rv_front.specs.declared.predictors.DescribedPredictor.{DescribedPredi
 use Rattle.rv_hardware.specs.Lessons.{first_pc, lesson_of, lessons_of}
 use Rattle.rv_hardware.specs.declared.step.Step.{Step}
 use Rattle.rv_states.specs.Predictor.{after_lessons}
-use Rattle.rv_states.proofs.predictor.+teach.Goals as goal
 
 after-both : (predictor : DescribedPredictor) (xs ys : List Lesson) →
     after_lessons predictor (xs ++ ys) ≡ after_lessons (after_lessons predictor xs) ys
@@ -27,6 +26,3 @@ taught_on : (steps rest : List Step) (step : Step) (next first : ℕ) (before mi
     after ≡ after_lessons before (lessons_of steps next)
 taught_on steps rest step next first before middle after steps_are first_is middle_is after_is =
     grind (arith, after-both)
-
-pub returns-in-len1-up : goal.returns-in-len1-up
-returns-in-len1-up t c = grind (arith, taught_on, apart)

@@ -1,10 +1,7 @@
 use Rattle.std.proofs.Common.{◌<◌, length, arith, refl}
 use Rattle.rv_states.specs.Predictor.{asked_in}
-use Rattle.rv_states.proofs.Given.{given_all, given_none, given_on}
+use Rattle.rv_states.proofs.Given.{given_on}
 use Rattle.rv_states.proofs.predictor.write_all_asked.Goals as goal
-
-pub loop-place-init : goal.loop-place-init
-loop-place-init g c = given_none (asked_in c.args.predictor.now c.args.cycle) c.args.front.now.entries _
 
 pub loop-place-preserved : goal.loop-place-preserved
 loop-place-preserved g c =
@@ -12,7 +9,3 @@ loop-place-preserved g c =
     let more = c.write_asked_at-written.ensures in
     given_on (asked_in c.args.predictor.now c.args.cycle) c.args.front.now.entries here c.loop-place.invariant _ (refl)
     more.said more.count more.few
-
-pub returns : goal.returns
-returns g c = given_all (asked_in c.args.predictor.now c.args.cycle) c.args.front.now.entries (omega arith)
-    c.loop-place.invariant

@@ -1,11 +1,8 @@
 use Rattle.std.proofs.Common.{◌<◌, length, arith}
 use Rattle.rv_states.proofs.Arrays.{given_at}
 use Rattle.rv_states.specs.Predictor.{place_taught}
-use Rattle.rv_states.proofs.Given.{given_all, given_none, given_on}
+use Rattle.rv_states.proofs.Given.{given_on}
 use Rattle.rv_states.proofs.predictor.write_all_taught.Goals as goal
-
-pub loop-step-init : goal.loop-step-init
-loop-step-init g c = given_none (place_taught c.args.tables.now) c.args.steps.now _
 
 pub loop-step-preserved : goal.loop-step-preserved
 loop-step-preserved g c =
@@ -14,6 +11,3 @@ loop-step-preserved g c =
     given_on (place_taught c.args.tables.now) c.args.steps.now here c.loop-step.invariant _
     (given_at (place_taught c.args.tables.now) c.args.steps.now _ c.step-item.result here c.step-item.is) more.said
     more.count more.few
-
-pub returns : goal.returns
-returns g c = given_all (place_taught c.args.tables.now) c.args.steps.now (omega arith) c.loop-step.invariant

@@ -1,15 +1,9 @@
 use Rattle.std.proofs.Common.{sym, ap, arith}
 use Rattle.rv_states.specs.Json.{values_from}
 use Rattle.rv_states.specs.Predictor.{asked_in}
-use Rattle.rv_states.proofs.Arrays.{found_given, missing_given}
+use Rattle.rv_states.proofs.Arrays.{missing_given}
 use Rattle.rv_text.proofs.Saying.{says_nothing, says_same}
 use Rattle.rv_states.proofs.predictor.write_asked_at.Goals as goal
-
-pub returns-in-Some-clause-said : goal.returns-in-Some-clause-said
-returns-in-Some-clause-said g c = grind (arith, says_same, found_given)
-
-pub returns-in-Some-clause-count : goal.returns-in-Some-clause-count
-returns-in-Some-clause-count g c = grind (arith, found_given)
 
 pub returns-in-None-clause-said : goal.returns-in-None-clause-said
 returns-in-None-clause-said g c =

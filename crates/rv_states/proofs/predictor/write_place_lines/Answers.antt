@@ -1,6 +1,6 @@
-use Rattle.std.proofs.Common.{◌≡◌, ap, arith, length}
+use Rattle.std.proofs.Common.{arith}
 use Rattle.rv_states.specs.Predictor.{place_line, place_lines}
-use Rattle.rv_text.proofs.Saying.{says_below, says_nothing, says_same}
+use Rattle.rv_text.proofs.Saying.{says_below, says_nothing}
 use Rattle.rv_text.proofs.Writing.{texts_below}
 use Rattle.rv_states.proofs.predictor.write_place_lines.Goals as goal
 
@@ -14,6 +14,4 @@ loop-place-preserved g c = says_below (place_line c.args.tables.now) c.loop-plac
 
 pub returns : goal.returns
 unfolding texts_below place_lines
-returns g c =
-    let all : c.loop-place.place ≡ length c.args.tables.now.counters = omega arith in
-    says_same (ap (texts_below (place_line c.args.tables.now)) all) c.loop-place.invariant
+returns g c = grind arith

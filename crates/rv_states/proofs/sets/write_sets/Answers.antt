@@ -1,6 +1,6 @@
-use Rattle.std.proofs.Common.{◌≡◌, ap, arith}
+use Rattle.std.proofs.Common.{arith}
 use Rattle.rv_states.specs.Sets.{set_line, set_lines}
-use Rattle.rv_text.proofs.Saying.{says_below, says_nothing, says_same}
+use Rattle.rv_text.proofs.Saying.{says_below, says_nothing}
 use Rattle.rv_text.proofs.Writing.{texts_below}
 use Rattle.rv_states.proofs.sets.write_sets.Goals as goal
 
@@ -14,8 +14,4 @@ loop-set-preserved g c = says_below (set_line c.args.hardware.now) c.loop-set.se
 
 pub returns : goal.returns
 unfolding texts_below set_lines
-returns g c =
-    let count : c.values.result.now.cache.sets ≡ c.args.hardware.now.values.cache.sets =
-    λ i. (c.values.ensures i).cache.sets in
-    let all : c.loop-set.set ≡ c.args.hardware.now.values.cache.sets = omega (arith, count) in
-    says_same (ap (texts_below (set_line c.args.hardware.now)) all) c.loop-set.invariant
+returns g c = grind arith

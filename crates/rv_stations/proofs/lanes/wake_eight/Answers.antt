@@ -1,25 +1,12 @@
 -- One more lane is woken where its tag is the number.
-use Rattle.std.proofs.Common.{map, eqb, ◌%◌, ◌^◌, ◌<◌, ◌∙◌, arith}
+use Rattle.std.proofs.Common.{arith}
 use Rattle.std.proofs.lemmas.List.{length-map}
 use Rattle.std.proofs.lemmas.Simd.{mask_l-lt}
-use Rattle.rv_stations.proofs.GiveLemmas.{lowest_lane, no_like, Giving-start, Giving-next, given-tags, given-values}
-use Rattle.rv_stations.proofs.GiveLemmas.{given-bits}
+use Rattle.rv_stations.proofs.GiveLemmas.{lowest_lane, no_like, Giving-next, given-tags, given-values, given-bits}
 use Rattle.rv_stations.proofs.lanes.wake_eight.Goals as goal
 
 pub loop-left-init : goal.loop-left-init
-loop-left-init c =
-    let few : c.args.like < 2 ^ 8 =
-    rw c.requires.like
-    (rw (length-map c.args.tags.now (λ t. eqb (t % 2 ^ 32) (c.args.seq % 2 ^ 32)) ∙ c.requires.tags) at
-    (mask_l-lt (map (λ t. eqb (t % 2 ^ 32) (c.args.seq % 2 ^ 32)) c.args.tags.now))) in (
-      few,
-      c.requires.tags,
-      c.requires.values,
-      omega arith,
-      Giving-start c.args.seq c.args.value c.args.tags.now c.args.values.now c.args.like
-          (λ lane lt clear. no_like c.args.seq c.args.tags.now lane (omega (arith, lt, c.requires.tags))
-          (rw c.requires.like at clear)),
-    )
+loop-left-init c = grind (arith, length-map, mask_l-lt, no_like)
 
 pub wake_one-is_woken-requires-clause-tags : goal.wake_one-is_woken-requires-clause-tags
 wake_one-is_woken-requires-clause-tags c =

@@ -1,4 +1,4 @@
-use Rattle.std.proofs.Common.{◌-◌, arith}
+use Rattle.std.proofs.Common.{arith}
 use Rattle.rv_causes.proofs.path.Path.take.Goals as goal
 
 pub returns-clause-known : goal.returns-clause-known

@@ -1,4 +1,4 @@
-use Rattle.std.proofs.Common.{◌∙◌, length, refl, sym, ap, subst, set, arith}
+use Rattle.std.proofs.Common.{◌∙◌, refl, sym, ap, subst, set, arith}
 use Rattle.rv_passage.proofs.ByAddress.{in_order-made, length-change}
 use Rattle.rv_causes.specs.Account.{IsWithin, address_of, no_cycles, with_more}
 use Rattle.rv_causes.proofs.WordChanges.{within-begun}
@@ -29,13 +29,7 @@ returns-clause-words c =
     ∙ sym (c.place_of-place.ensures.changes (with_more c.args.cause c.args.cycles) c.index_mut.result.now)
 
 pub returns-clause-few : goal.returns-clause-few
-returns-clause-few c =
-    omega (
-      arith,
-      ap length (returns-clause-words c),
-      length-change address_of no_cycles c.args.address
-          (with_more c.args.cause c.args.cycles) c.args.self.now.words.items,
-    )
+returns-clause-few c = grind (arith, returns-clause-words, length-change)
 
 pub invariant_of-self : goal.invariant_of-self
 invariant_of-self c = record {

@@ -1,10 +1,6 @@
-use Rattle.rv_core.proofs.Words.{◌++◌, sym, ◌∙◌, arith}
+use Rattle.rv_core.proofs.Words.{◌++◌, sym, ◌∙◌}
 use Rattle.rv_watch.proofs.Shown.{shown_steps-push}
 use Rattle.rv_core.proofs.collector.CollectorWatcher.see.Goals as goal
-
-pub add-requires : goal.add-requires
-add-requires g c = let (start, seen, before, shown, collected) =
-    c.requires.shown in record { room = omega (arith, shown.few, c.requires.room) }
 
 pub returns : goal.returns
 returns g c start seen before shown collected =

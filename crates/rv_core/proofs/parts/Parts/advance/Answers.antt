@@ -13,13 +13,6 @@ use Rattle.rv_core.proofs.parts.Parts.advance.Goals as goal
 use Rattle.rv_core.proofs.parts.Parts.advance.Goals.{After-self-2}
 use Rattle.rv_core.proofs.parts.Parts.advance.Given.{Over}
 
-pub invariant_of-self : goal.invariant_of-self
-invariant_of-self g c = sound-numbered c.self.inside c.self.invariant c.args.lines c.self.inside.cycle
-    (omega arith) c.self.invariant.sound.cycles
-
-pub overflow_add-self : goal.overflow_add-self
-overflow_add-self g c = omega (arith, c.self.invariant.sound.cycles)
-
 legal : (g : Over) (c : After-self-2 g) → IsLegal c.args.self.now.values
 legal g c = subst (λ (h : Hardware). IsLegal h.values) c.self.view_is c.self.invariant.sound.legal
 

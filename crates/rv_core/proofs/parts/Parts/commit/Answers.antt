@@ -2,9 +2,9 @@ use Rattle.rv_core.proofs.Words.{◌≡◌, ◌+◌, ◌-◌, ◌<◌, Some, sym
 use Rattle.rv_core.proofs.Words.{commit_unless, Hardware, and_step, committing, turn_left}
 use Rattle.std.specs.FinSet as set
 use Rattle.rv_core.specs.Steps.{Takes}
-use Rattle.rv_core.proofs.Retired.Loop.{none_committed, committed_all, committed_whole, committed_more, few_retired}
-use Rattle.rv_core.proofs.Retired.Loop.{has_room, interrupt_fits, interrupted, steps_with}
-use Rattle.rv_core.proofs.Retired.Taught.{none_taught, taught_all, taught_at_end, teaching_begins, teaching_goes}
+use Rattle.rv_core.proofs.Retired.Loop.{none_committed, committed_all, committed_whole, committed_more, has_room}
+use Rattle.rv_core.proofs.Retired.Loop.{interrupted, steps_with}
+use Rattle.rv_core.proofs.Retired.Taught.{taught_at_end, teaching_begins, teaching_goes}
 use Rattle.rv_core.proofs.parts.Parts.commit.Goals as goal
 use Rattle.rv_core.proofs.parts.Parts.commit.Goals.{After-loop, In-Some, In-Ends}
 use Rattle.rv_core.proofs.parts.Parts.commit.Given.{Over}
@@ -21,20 +21,6 @@ loop-init g c = (
 taken : (g : Over) (c : In-Some g) →
     commit_unless set.contains (Some c.in-Some.code) c.args.self.now ≡ commit set.contains c.args.self.now
 taken g c = interrupted c.args.self.now c.in-Some.code (sym c.in-Some.is ∙ c.due_interrupt.ensures.due)
-
-pub returns-in-Some-clause-hardware : goal.returns-in-Some-clause-hardware
-returns-in-Some-clause-hardware g c = c.interrupt-step.ensures.hardware
-    ∙ ap (λ (x : Committing). x.hardware) (taken g (goal.at.returns-in-Some-clause-hardware g c).In-Some)
-
-pub returns-in-Some-clause-steps : goal.returns-in-Some-clause-steps
-returns-in-Some-clause-steps g c = grind (arith, taken)
-
-pub returns-in-Some-clause-stop : goal.returns-in-Some-clause-stop
-returns-in-Some-clause-stop g c =
-    ap (λ (x : Committing). x.stop) (taken g (goal.at.returns-in-Some-clause-stop g c).In-Some)
-
-pub returns-in-Some-clause-taught : goal.returns-in-Some-clause-taught
-returns-in-Some-clause-taught g c = grind (arith, taken, none_taught)
 
 -- a turn that ends the phase leaves what the definition leaves
 ends : (g : Over) (c : In-Ends g) →
@@ -77,21 +63,6 @@ turned : (g : Over) (c : After-loop g) → committing c.loop.self c.loop.invaria
     ≡ commit set.contains c.args.self.now
 turned g c = grind (arith, committed_all)
 
-pub returns-clause-hardware : goal.returns-clause-hardware
-returns-clause-hardware g c =
-    ap (λ (x : Committing). x.hardware) (turned g (goal.at.returns-clause-hardware g c).After-loop)
-
-pub returns-clause-steps : goal.returns-clause-steps
-returns-clause-steps g c =
-    subst (Takes c.args.steps.now _)
-    (ap (λ (x : Committing). x.steps) (turned g (goal.at.returns-clause-steps g c).After-loop)) c.loop.invariant.0.taken
-
-pub returns-clause-stop : goal.returns-clause-stop
-returns-clause-stop g c = ap (λ (x : Committing). x.stop) (turned g (goal.at.returns-clause-stop g c).After-loop)
-
-pub returns-clause-taught : goal.returns-clause-taught
-returns-clause-taught g c = grind (arith, taught_all, commit, turned)
-
 pub loop-preserved : goal.loop-preserved
 unfolding committed_more
 loop-preserved g c = (
@@ -107,12 +78,6 @@ loop-preserved g c = (
       c.commit_head.new.self (c.commit_head.ensures.turn.left c.loop.invariant.0.steps) _ c.in-GoesOn.is
       c.commit_head.ensures.turn.learns,
 )
-
-pub overflow_add-code : goal.overflow_add-code
-overflow_add-code g c = interrupt_fits c.in-Some.code c.in-Some.ensures.code
-
-pub commit_head-requires-clause-retired : goal.commit_head-requires-clause-retired
-commit_head-requires-clause-retired g c = grind (arith, few_retired)
 
 pub commit_head-requires-clause-room : goal.commit_head-requires-clause-room
 commit_head-requires-clause-room g c =

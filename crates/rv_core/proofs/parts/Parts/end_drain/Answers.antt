@@ -1,7 +1,7 @@
-use Rattle.rv_core.proofs.Words.{◌≡◌, ◌<◌, ap, ◌∙◌, without_drained, Store as QueuedStore, end_drain, Hardware}
-use Rattle.rv_core.proofs.Words.{stores_of, Queue, IsSound, hardware_of, IsRetiredStore, IsSoundHardware, queue_of}
-use Rattle.rv_core.proofs.Words.{Inside}
-use Rattle.rv_core.proofs.Phases.Drained.{kept_when_drained, none_drains, without_drained_after}
+use Rattle.std.proofs.Common.{arith}
+use Rattle.rv_core.proofs.Words.{◌≡◌, ◌<◌, ap, ◌∙◌, without_drained, Store as QueuedStore, end_drain, Hardware, Queue}
+use Rattle.rv_core.proofs.Words.{IsSound, hardware_of, IsRetiredStore, IsSoundHardware, queue_of, Inside}
+use Rattle.rv_core.proofs.Phases.Drained.{kept_when_drained}
 use Rattle.rv_core.proofs.Phases.Stored.{sound_with_cache, parts_with_cache, view_with_cache}
 use Rattle.rv_core.proofs.parts.Parts.end_drain.Goals as goal
 
@@ -19,13 +19,7 @@ sound {p = p} before =
 queued : {p : Inside} {stores : Queue} → IsSound p →
     stores ≡ record p.stores { stores = without_drained p.stores.stores } →
     stores ≡ queue_of (next p)
-queued {p = p} before is =
-    let h = hardware_of p in
-    is
-    ∙ ap (λ (q : Queue). record q { stores = without_drained q.stores }) before.tied.queued
-    ∙ ap (λ l. record { stores = l; capacity = h.values.store_queue })
-    (without_drained_after h.committed (stores_of h.rob.retired h.rob.entries)
-    (none_drains h.rob.retired h.rob.entries))
+queued {p = p} before is = grind arith
 
 pub invariant_of-self : goal.invariant_of-self
 invariant_of-self c =

@@ -1,25 +1,21 @@
-use Rattle.rv_core.proofs.Words.{◌≡◌, ◌∷◌, [], ℕ, Some, None, slice_get, option_map, sym, ap, ◌∙◌, subst, Hardware}
-use Rattle.rv_core.proofs.Words.{IsHead, committing, row_of, flushed, turn_ended, turn_left}
+use Rattle.std.proofs.Common.{arith}
+use Rattle.rv_core.proofs.Words.{◌≡◌, ◌∷◌, [], ℕ, Some, None, option_map, sym, ap, ◌∙◌, subst, Hardware, IsHead}
+use Rattle.rv_core.proofs.Words.{committing, row_of, flushed, turn_ended, turn_left}
 use Rattle.rv_hardware.specs.Retirement.{written_of}
 use Rattle.rv_core.specs.Steps.{Takes}
 use Rattle.rv_core.specs.declared.head.HeadTurn.TheVariants as turn
-use Rattle.rv_core.proofs.Retired.Roles.{ended_as, first_is_head, kept_flushed, kept_retired, kept_trapped}
-use Rattle.rv_core.proofs.Retired.Roles.{retires_last, retires_on, traps_by, turn_ends, turn_finishes, turn_of_none}
+use Rattle.rv_core.proofs.Retired.Roles.{ended_as, first_is_head, retires_last, retires_on, traps_by, turn_ends}
+use Rattle.rv_core.proofs.Retired.Roles.{turn_finishes}
 use Rattle.rv_core.proofs.Retired.Taught.{learns_at}
 use Rattle.rv_core.proofs.parts.Parts.finish_head.Goals as goal
 use Rattle.rv_core.proofs.parts.Parts.finish_head.Goals.{After-take_row, In-Some}
 use Rattle.rv_core.proofs.parts.Parts.finish_head.Given.{Over}
 
 head : (g : Over) (c : In-Some g) → IsHead c.args.self.now c.in-Some.head.now
-head g c =
-    first_is_head c.args.self.now c.in-Some.head.now
-    (ap (λ (h : Hardware). slice_get h.rob.entries 0) (sym c.self.view_is) ∙ sym c.in-Some.ensures)
+head g c = grind (arith, first_is_head)
 
 pub retire-requires-clause-head : goal.retire-requires-clause-head
 retire-requires-clause-head g c = head g (goal.at.retire-requires-clause-head g c).In-Some
-
-pub retire-requires-clause-known : goal.retire-requires-clause-known
-retire-requires-clause-known g c = sym c.message_of.ensures ∙ c.in-Some-message_of.is
 
 pub returns-in_default-message_of-clause-turn : goal.returns-in_default-message_of-clause-turn
 returns-in_default-message_of-clause-turn g c =
@@ -56,12 +52,7 @@ row : (g : Over) (c : After-take_row g) →
     (option_map (λ (register : ℕ). (register, c.in-Some-message_of.message.value)) c.target-target.result)
     c.self.inside.cycle
     ≡ row_of c.in-Some.head.now (written_of c.in-Some.head.now c.in-Some-message_of.message) c.args.self.now.cycle
-row g c =
-    let e = c.in-Some.head.now in
-    let m = c.in-Some-message_of.message in
-    ap (λ w. row_of e w c.self.inside.cycle)
-    (ap (option_map (λ (register : ℕ). (register, m.value))) c.target-target.ensures.target)
-    ∙ ap (λ (x : Hardware). row_of e (written_of e m) x.cycle) c.self.view_is
+row g c = grind arith
 
 pub returns-then-message-entry-clause-turn : goal.returns-then-message-entry-clause-turn
 returns-then-message-entry-clause-turn g c =
@@ -107,20 +98,3 @@ returns-clause-turn g c =
           (sym (ap (λ (x : Hardware). x.pc) flushed_is))
           (rw (← c.unwrap_or.ensures) c.learn.ensures);
     }
-
-pub returns-in_default-clause-turn : goal.returns-in_default-clause-turn
-returns-in_default-clause-turn g c =
-    turn_of_none c.args.self.now c.args.steps.now _
-    (ap (λ (h : Hardware). slice_get h.rob.entries 0) (sym c.self.view_is) ∙ sym c.in_default.ensures)
-
-pub returns-in-Some-fault-clause-kept : goal.returns-in-Some-fault-clause-kept
-returns-in-Some-fault-clause-kept g c =
-    kept_trapped c.args.self.now c.trap-step.new.self _ _ c.trap-step.ensures.hardware
-
-pub returns-then-message-entry-clause-kept : goal.returns-then-message-entry-clause-kept
-returns-then-message-entry-clause-kept g c =
-    kept_retired c.args.self.now c.retire.new.self c.in-Some.head.now c.in-Some-message_of.message c.retire.ensures
-
-pub returns-clause-kept : goal.returns-clause-kept
-returns-clause-kept g c = kept_flushed c.args.self.now c.flush.new.self c.in-Some.head.now c.in-Some-message_of.message
-    (c.flush.ensures ∙ ap flushed c.retire.ensures)

@@ -1,3 +1,4 @@
+use Rattle.std.proofs.Common.{arith}
 use Rattle.rv_core.proofs.Words.{◌≡◌, ap, ◌∙◌, flushed, hardware_of, Inside}
 use Rattle.rv_core.proofs.Retired.Flushed.{emptied}
 use Rattle.rv_core.proofs.Retired.Squashed.{AreSquashed, squashed-is, squashed-sound}
@@ -14,19 +15,12 @@ left c = record c.self.inside {
 }
 
 squashed : (c : goal.After-redirect) → AreSquashed c.self.inside (left c)
-squashed c = record {
-  rename = c.squash_all.ensures.rename;
-  stations = c.squash_all.ensures.stations;
-  bus = c.squash_all.ensures.bus;
-  stores = c.squash_all.ensures.stores;
-}
+squashed c = grind arith
 
 same : (c : goal.After-redirect) →
     record (hardware_of (left c)) { committed = (hardware_of c.self.inside).committed }
     ≡ flushed (hardware_of c.self.inside)
-same c =
-    let rob = c.squash_all.ensures.rob ∙ emptied c.self.inside.rob in
-    λ i. record (hardware_of c.self.inside) { rob = rob i; front = c.redirect.ensures i }
+same c = grind (arith, emptied)
 
 pub invariant_of-self : goal.invariant_of-self
 invariant_of-self c =

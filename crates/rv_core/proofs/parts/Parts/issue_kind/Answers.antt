@@ -1,5 +1,4 @@
-use Rattle.std.proofs.Common.{rules}
-use Rattle.rv_core.proofs.Words.{◌+◌, ◌-◌, is_some, sym, refl, ap, ◌∙◌, arith, issue_kind, issue_turn, turn_of}
+use Rattle.rv_core.proofs.Words.{◌+◌, ◌-◌, is_some, sym, ap, ◌∙◌, arith, issue_kind, issue_turn, turn_of}
 use Rattle.rv_core.proofs.Issued.Parts.{turn_empty}
 use Rattle.rv_core.proofs.Phases.Turned.{turned-ends, turned-goes, turned-none}
 use Rattle.rv_core.proofs.parts.Parts.issue_kind.Goals as goal
@@ -13,9 +12,6 @@ returns-in_default c =
     turned-ends (issue_turn c.args.kind) (issue_kind c.args.kind c.args.self.now)
     (c.get.result.now.units - c.loop.counter) c.loop.self c.issue_one.new.self
     (omega (arith, c.loop-test.true)) c.loop.invariant.0 ends
-
-pub loop-init : goal.loop-init
-loop-init c = (search rules, refl)
 
 pub loop-preserved : goal.loop-preserved
 loop-preserved c =

@@ -1,15 +1,10 @@
-use Rattle.rv_core.proofs.Words.{ap, ◌∙◌, sym, hardware_of, KindValues, Layout, path_cost}
+use Rattle.rv_core.proofs.Words.{ap, ◌∙◌, sym, hardware_of, KindValues, path_cost}
 use Rattle.rv_stations.specs.Waiting.{ready_taken}
 use Rattle.rv_core.specs.Access.{path_of_ready}
 use Rattle.rv_core.proofs.Issued.Executed.{Execution}
-use Rattle.rv_core.proofs.Issued.Parts.{absent, passed_after, passed_in_code, room, sound_after, sound_still}
-use Rattle.rv_core.proofs.Issued.Parts.{turn_after, turn_ends}
+use Rattle.rv_core.proofs.Issued.Parts.{absent, passed_after, room, sound_after, sound_still, turn_after, turn_ends}
 use Rattle.rv_core.proofs.parts.Parts.issue_ready.Goals as goal
 use Rattle.rv_core.proofs.parts.Parts.issue_ready.Goals.{After-start}
-
-pub take_ready-requires : goal.take_ready-requires
-take_ready-requires c =
-    passed_in_code c.self.invariant c.self.view_is c.args.kind c.is_port_idle-port_idle.ensures c.args.passed c.requires
 
 pub invariant_of-self : goal.invariant_of-self
 invariant_of-self c =
@@ -69,17 +64,3 @@ returns-clause-passed c =
     (ap ready_taken c.in-Some.is) (executed (goal.at.returns-clause-passed c).After-start)
     c.hold_unit.ensures c.start.ensures c.take_ready.ensures.others c.accept.ensures
     c.in-Some.taken.passed (rw c.in-Some.is at c.take_ready.ensures.passed)
-
-pub execute-executed-requires-clause-over_ram : goal.execute-executed-requires-clause-over_ram
-execute-executed-requires-clause-over_ram c =
-    let cache = c.self.invariant.sound.cache in
-    record {
-      base = cache.base ∙ sym (ap (λ (l : Layout). l.base) cache.layout);
-      size = cache.bytes ∙ sym (ap (λ (l : Layout). l.size) cache.layout);
-    }
-
-pub execute-executed-requires-clause-cycle : goal.execute-executed-requires-clause-cycle
-execute-executed-requires-clause-cycle c = c.self.invariant.sound.cycles
-
-pub accept-requires-clause-cycle : goal.accept-requires-clause-cycle
-accept-requires-clause-cycle c = c.self.invariant.sound.cycles

@@ -1,15 +1,11 @@
-use Rattle.rv_core.proofs.Words.{◌≡◌, ap, ◌∙◌, sym, subst, stores_of, Queue, is_oldest_draining, IsSound}
-use Rattle.rv_core.proofs.Words.{hardware_of, Inside, Reachable}
+use Rattle.std.proofs.Common.{arith}
+use Rattle.rv_core.proofs.Words.{◌≡◌, sym, subst, is_oldest_draining, IsSound, hardware_of, Inside, Reachable}
 use Rattle.rv_core.proofs.Loads.Seen.{none_outside, outside_by, some_inside}
-use Rattle.rv_core.proofs.Phases.Drained.{is_draining_after, none_drains}
 use Rattle.rv_core.proofs.parts.Parts.lent.Goals as goal
 
 -- the queue's oldest store drains where the oldest retired one does
 oldest : (p : Inside) → IsSound p → is_oldest_draining p.stores.stores ≡ is_oldest_draining (hardware_of p).committed
-oldest p before =
-    let h = hardware_of p in
-    ap (λ (q : Queue). is_oldest_draining q.stores) before.tied.queued
-    ∙ is_draining_after h.committed (stores_of h.rob.retired h.rob.entries) (none_drains h.rob.retired h.rob.entries)
+oldest p before = grind arith
 
 pub invariant_of-result : goal.invariant_of-result
 invariant_of-result c =

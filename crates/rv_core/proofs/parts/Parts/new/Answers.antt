@@ -1,5 +1,6 @@
-use Rattle.rv_core.proofs.Words.{◌≡◌, ap, ◌∙◌, subst, filter, replicate, is_committed, IsLegal, StaleWords}
-use Rattle.rv_core.proofs.Words.{reset_hardware, hardware_of, Inside, Ok, Values, []}
+use Rattle.std.proofs.Common.{arith}
+use Rattle.rv_core.proofs.Words.{◌≡◌, ap, ◌∙◌, subst, replicate, IsLegal, StaleWords, reset_hardware, hardware_of}
+use Rattle.rv_core.proofs.Words.{Inside, Ok, Values, []}
 use Rattle.std.specs.FinSet.{empty}
 use Rattle.std.proofs.lemmas.Result.{IfOk-at_ok}
 use Rattle.rv_core.proofs.Ties.Reset.{reset-sound}
@@ -54,30 +55,7 @@ stores c = IfOk-at_ok _ (buffers c).2 c.new-5.ensures
 -- the parts stand for the hardware at reset
 view : (c : After-default) →
     hardware_of (parts c) ≡ reset_hardware c.args.description.now c.args.image.now.bytes c.args.image.now.start
-view c =
-    let front = IfOk-at_ok _ (memory c).0 c.new.ensures in
-    let cache = IfOk-at_ok _ (memory c).1 c.cache_at_reset.ensures in
-    let rob = IfOk-at_ok _ (buffers c).0 c.new-3.ensures in
-    let units = IfOk-at_ok _ (execution c).1 c.new-7.ensures in
-    λ i. record {
-      values = c.values-values.ensures.values i;
-      pc = c.args.image.now.start;
-      registers = replicate 32 0;
-      csrs = c.reset.ensures i;
-      stale = (stale c i).words;
-      cache = cache i;
-      committed = filter is_committed (stores c i).stores;
-      port_free = 0;
-      units = units i;
-      rob = rob i;
-      front = front i;
-      cycle = 0;
-      lines = record {
-        software = c.default.ensures.0 i;
-        timer = c.default.ensures.1.0 i;
-        external = c.default.ensures.1.1 i;
-      };
-    }
+view c = grind arith
 
 pub invariant_of-parts : goal.invariant_of-parts
 invariant_of-parts c =
@@ -88,6 +66,3 @@ invariant_of-parts c =
     (IfOk-at_ok _ (execution c).2 c.new-8.ensures) (stores c)
     (ap (λ (s : StaleWords). s.base) (stale c) ∙ ap (λ (v : Values). v.ram_base) described)
     (ap (λ (s : StaleWords). s.size) (stale c) ∙ ap (λ (v : Values). v.ram_size) described)
-
-pub returns : goal.returns
-returns c = c.in_ok-new.ensures.ok ∙ view (goal.at.returns c).After-default

@@ -1,6 +1,7 @@
-use Rattle.rv_core.proofs.Words.{◌≡◌, true, false, ◌&&◌, length, nat_le, sym, refl, ap, ◌∙◌, is_store, kind_of_word}
-use Rattle.rv_core.proofs.Words.{has_full_stations, stores_after, are_full_for, hardware_of}
-use Rattle.rv_core.proofs.Ties.Dispatch.{full-is, reason-is}
+use Rattle.std.proofs.Common.{arith}
+use Rattle.rv_core.proofs.Words.{◌≡◌, ◌&&◌, length, nat_le, sym, ap, ◌∙◌, is_store, kind_of_word, has_full_stations}
+use Rattle.rv_core.proofs.Words.{stores_after, are_full_for, hardware_of}
+use Rattle.rv_core.proofs.Ties.Dispatch.{full-is}
 use Rattle.rv_core.proofs.parts.Parts.reason_to_wait.Goals as goal
 use Rattle.rv_core.proofs.parts.Parts.reason_to_wait.Goals.{After-are_full_for, After-waits_for_queue}
 
@@ -15,32 +16,13 @@ station c =
 queue : (c : After-waits_for_queue) →
     (is_store c.args.fetched.now.instruction && nat_le c.self.inside.values.store_queue
     (length (stores_after (hardware_of c.self.inside) c.self.inside.rob.entries))) ≡ c.waits_for_queue.result
-queue c = sym (c.waits_for_queue.ensures
-    ∙ ap (λ q. is_store c.args.fetched.now.instruction && nat_le q.capacity (length q.stores))
-    c.self.invariant.tied.queued)
+queue c = grind arith
 
 pub returns-then-are_full_for : goal.returns-then-are_full_for
-returns-then-are_full_for c =
-    let at = goal.at.returns-then-are_full_for c in
-    rw (← c.self.view_is) (sym
-    (reason-is (hardware_of c.self.inside) c.args.fetched.now false false true _
-    (sym c.is_serial.ensures ∙ c.if-is_serial.false) (sym c.is_full.ensures.full ∙ c.if-is_full.false)
-    (station at.After-are_full_for ∙ c.if-are_full_for.true) refl))
+returns-then-are_full_for c = grind (arith, station)
 
 pub returns-then-waits_for_queue : goal.returns-then-waits_for_queue
-returns-then-waits_for_queue c =
-    let at = goal.at.returns-then-waits_for_queue c in
-    rw (← c.self.view_is) (sym
-    (reason-is (hardware_of c.self.inside) c.args.fetched.now false false false true
-    (sym c.is_serial.ensures ∙ c.if-is_serial.false) (sym c.is_full.ensures.full ∙ c.if-is_full.false)
-    (station at.After-are_full_for ∙ c.if-are_full_for.false) (queue at.After-waits_for_queue
-    ∙ c.if-waits_for_queue.true)))
+returns-then-waits_for_queue c = grind (arith, station)
 
 pub returns : goal.returns
-returns c =
-    let at = goal.at.returns c in
-    rw (← c.self.view_is) (sym
-    (reason-is (hardware_of c.self.inside) c.args.fetched.now false false false false
-    (sym c.is_serial.ensures ∙ c.if-is_serial.false) (sym c.is_full.ensures.full ∙ c.if-is_full.false)
-    (station at.After-are_full_for ∙ c.if-are_full_for.false) (queue at.After-waits_for_queue
-    ∙ c.if-waits_for_queue.false)))
+returns c = grind (arith, station)

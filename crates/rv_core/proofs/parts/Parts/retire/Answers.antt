@@ -1,11 +1,12 @@
-use Rattle.rv_core.proofs.Words.{◌≡◌, ℕ, ◌+◌, ◌*◌, ◌<◌, ◌≢◌, length, IfSome, Some, None, Option, option_map, sym, ap}
-use Rattle.rv_core.proofs.Words.{◌∙◌, subst, is_store, target_of_word, Message, Entry, Hardware, broadcast_of}
-use Rattle.rv_core.proofs.Words.{with_result, StaleWords, without_checkpoint, IsHead, IsSound, hardware_of}
-use Rattle.rv_core.proofs.Words.{registers_with, without_target, IsLegalWrite, IsSoundHardware, AreTied, Inside}
+use Rattle.std.proofs.Common.{arith}
+use Rattle.rv_core.proofs.Words.{◌≡◌, ℕ, ◌+◌, ◌*◌, ◌<◌, Some, None, Option, sym, ap, ◌∙◌, subst, is_store}
+use Rattle.rv_core.proofs.Words.{target_of_word, Message, Entry, Hardware, broadcast_of, with_result, StaleWords}
+use Rattle.rv_core.proofs.Words.{without_checkpoint, IsHead, IsSound, hardware_of, without_target, IsLegalWrite}
+use Rattle.rv_core.proofs.Words.{IsSoundHardware, AreTied, Inside}
 use Rattle.rv_core.proofs.Ties.Closed.{closed-is, closed-sound}
 use Rattle.rv_core.proofs.Retired.Head.{IsTarget, tied_after_head}
 use Rattle.rv_core.proofs.Retired.Sound.{sound_after_head}
-use Rattle.rv_core.proofs.Retired.Write.{legal_write, target_written, write_is_covered}
+use Rattle.rv_core.proofs.Retired.Write.{legal_write, write_is_covered}
 use Rattle.rv_core.proofs.parts.Parts.retire.Goals as goal
 
 -- what the callers promise, of the parts themselves
@@ -38,10 +39,7 @@ abbrev next : goal.After-self-1 → Hardware
 next c = with_result c.args.entry.now c.args.message.now (hardware_of c.self.inside)
 
 target : (c : goal.After-self-1) → IsTarget c.self.inside.registers (target_of_word c.args.entry.now.instruction)
-target c =
-    subst (λ (o : Option ℕ). IfSome o
-    (λ register. (register ≢ 0) × (register < length c.self.inside.registers))) c.requires.target
-    (rw c.self.told c.requires.in_range)
+target c = grind arith
 
 write : (c : goal.After-self-1) →
     IsLegalWrite c.self.inside.values (is_store c.args.entry.now.instruction) None c.args.message.now.store
@@ -72,19 +70,7 @@ tied c =
     }
 
 same : (c : goal.After-self-1) → record (hardware_of (left c)) { committed = (next c).committed } ≡ next c
-same c =
-    let registers =
-    c.write_target.ensures
-    ∙ ap (λ (o : Option ℕ). registers_with
-    (option_map (λ (register : ℕ).
-    (register, c.args.message.now.value)) o) c.self.inside.registers) c.requires.target
-    ∙ target_written c.self.inside.registers (target_of_word c.args.entry.now.instruction)
-    c.args.message.now (target c) in
-    λ i. record (next c) {
-      registers = registers i;
-      stale = (c.commit_store.ensures.stale i).words;
-      rob = c.retire_oldest.ensures.rob i;
-    }
+same c = grind arith
 
 pub invariant_of-self : goal.invariant_of-self
 invariant_of-self c =

@@ -1,5 +1,6 @@
-use Rattle.rv_core.proofs.Words.{◌≡◌, ◌+◌, ◌*◌, ◌<◌, [], sym, ap, ◌∙◌, subst, ReorderBuffer, head_retired, Hardware}
-use Rattle.rv_core.proofs.Words.{flushed, IsHead, hardware_of, registers_with, IsSoundHardware, Inside}
+use Rattle.std.proofs.Common.{arith}
+use Rattle.rv_core.proofs.Words.{◌≡◌, ◌+◌, ◌*◌, ◌<◌, sym, ap, ◌∙◌, subst, head_retired, Hardware, flushed, IsHead}
+use Rattle.rv_core.proofs.Words.{hardware_of, registers_with, IsSoundHardware, Inside}
 use Rattle.rv_core.proofs.Retired.Flushed.{emptied}
 use Rattle.rv_core.proofs.Retired.Serial.{sound_after_serial}
 use Rattle.rv_core.proofs.Retired.Squashed.{AreSquashed, squashed-is, squashed-sound}
@@ -26,12 +27,7 @@ next c h = record h {
 }
 
 squashed : (c : goal.After-redirect) → AreSquashed c.self.inside (left c)
-squashed c = record {
-  rename = c.squash_all.ensures.rename;
-  stations = c.squash_all.ensures.stations;
-  bus = c.squash_all.ensures.bus;
-  stores = c.squash_all.ensures.stores;
-}
+squashed c = grind arith
 
 sound : (c : goal.After-redirect) → IsSoundHardware (next c (hardware_of c.self.inside))
 sound c =
@@ -44,14 +40,7 @@ sound c =
 same : (c : goal.After-redirect) →
     record (hardware_of (left c)) { committed = (hardware_of c.self.inside).committed }
     ≡ flushed (next c (hardware_of c.self.inside))
-same c =
-    let rob = c.squash_all.ensures.rob ∙ emptied c.pop_head.new.self
-    ∙ ap (λ (r : ReorderBuffer). record r { entries = [] }) c.pop_head.ensures in
-    λ i. record (flushed (next c (hardware_of c.self.inside))) {
-      registers = c.write.ensures i;
-      rob = rob i;
-      front = c.redirect.ensures i;
-    }
+same c = grind (arith, emptied)
 
 pub invariant_of-self : goal.invariant_of-self
 invariant_of-self c =

@@ -1,19 +1,15 @@
 use Rattle.rv_core.proofs.Words.{◌≡◌, ◌+◌, Bool, false, List, length, Some, None, Option, sym, refl, ap, ◌∙◌}
-use Rattle.rv_core.proofs.Words.{true≢false, arith, StoreAccess, Memory, Contents, oldest_to_drain}
-use Rattle.rv_core.proofs.Words.{with_oldest_draining, Store as QueuedStore, start_drain, with_drained, Hardware}
-use Rattle.rv_core.proofs.Words.{stores_of, IsSome, IsTrue, IsAccess, Queue, IsSound, hardware_of, IsDescribedCache}
-use Rattle.rv_core.proofs.Words.{IsSoundHardware, queue_of, Inside}
-use Rattle.rv_core.proofs.Phases.Drained.{below_when_draining, draining_after, none_drains, oldest_after}
-use Rattle.rv_core.proofs.Phases.Drained.{oldest_is_legal, retired_when_draining}
+use Rattle.rv_core.proofs.Words.{true≢false, arith, StoreAccess, oldest_to_drain, with_oldest_draining}
+use Rattle.rv_core.proofs.Words.{Store as QueuedStore, start_drain, with_drained, Hardware, stores_of, IsSome, IsTrue}
+use Rattle.rv_core.proofs.Words.{IsAccess, Queue, IsSound, hardware_of, IsDescribedCache, IsSoundHardware, queue_of}
+use Rattle.rv_core.proofs.Words.{Inside}
+use Rattle.rv_core.proofs.Phases.Drained.{below_when_draining, draining_after, oldest_is_legal, retired_when_draining}
 use Rattle.rv_core.proofs.Phases.Stored.{sound_with_cache, parts_with_cache, view_with_cache, with_cache}
 use Rattle.rv_core.proofs.parts.Parts.start_drain.Goals as goal
 
 -- the queue's oldest store is the oldest retired one
 oldest : {p : Inside} → IsSound p → oldest_to_drain p.stores.stores ≡ oldest_to_drain (hardware_of p).committed
-oldest {p = p} before =
-    let h = hardware_of p in
-    ap (λ (q : Queue). oldest_to_drain q.stores) before.tied.queued
-    ∙ oldest_after h.committed (stores_of h.rob.retired h.rob.entries) (none_drains h.rob.retired h.rob.entries)
+oldest {p = p} before = grind arith
 
 nothing_starts : (h : Hardware) (found : Option StoreAccess) (can_drain : Bool) → (IsSome found → IsTrue can_drain) →
     can_drain ≡ false → h ≡ start_drain found h
@@ -58,12 +54,7 @@ queued {p = p} {access = access} before is left =
     (draining_after h.committed (stores_of h.rob.retired h.rob.entries) access (is_oldest before is))
 
 described : (c : goal.After-self-1) → IsDescribedCache c.self.inside.values c.write-cost.new.self
-described c = record {
-  base = ap (λ (x : Contents Memory). x.base) c.write-cost.ensures.accessed ∙ c.self.invariant.sound.cache.base;
-  values = ap (λ (x : Contents Memory). x.values) c.write-cost.ensures.accessed ∙ c.self.invariant.sound.cache.values;
-  bytes = c.write-cost.ensures.size ∙ c.self.invariant.sound.cache.bytes;
-  layout = c.write-cost.ensures.kept ∙ c.self.invariant.sound.cache.layout;
-}
+described c = grind arith
 
 sound : (c : goal.After-self-1) →
     IsSoundHardware (with_cache c.write-cost.new.self (draining c.self.inside) (c.self.inside.cycle + c.from.result)

@@ -1,6 +1,5 @@
-use Rattle.rv_core.proofs.Words.{◌∙◌, by_cycle}
+use Rattle.rv_core.proofs.Words.{by_cycle}
 use Rattle.rv_hardware.proofs.AnyPrediction.{any_cycle}
-use Rattle.rv_core.proofs.Guiding.{cycle_from}
 use Rattle.rv_core.proofs.pipeline.Pipeline.advance.Goals as goal
 
 pub invariant_of-self : goal.invariant_of-self
@@ -11,8 +10,3 @@ invariant_of-self g c = record {
   lists = c.self.invariant.lists;
   has_room = c.self.invariant.has_room;
 }
-
-pub returns-clause-cycle : goal.returns-clause-cycle
-returns-clause-cycle g c =
-    let done = c.advance.ensures.cycle in
-    (done.0, done.1, done.2, cycle_from (c.deref_mut.ensures.value ∙ c.self.view_is) done.3)

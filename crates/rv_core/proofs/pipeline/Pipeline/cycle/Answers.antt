@@ -4,32 +4,13 @@ use Rattle.rv_hardware.proofs.AnyPrediction.{any_cycle}
 use Rattle.rv_hardware.proofs.Headline.Cycle.{headline_of_cycle}
 use Rattle.rv_hardware.proofs.Laws.Counts.{IsCounted}
 use Rattle.rv_hardware.proofs.Marks.History.{reachable_has_history}
-use Rattle.rv_hardware.proofs.Laws.OfCycles.{cycle_is_counted, due_interrupt_is_taken}
-use Rattle.rv_core.proofs.Exhausted.{all_done, cycle_left}
+use Rattle.rv_hardware.proofs.Laws.OfCycles.{cycle_is_counted}
+use Rattle.rv_core.proofs.Exhausted.{all_done}
 use Rattle.rv_core.proofs.pipeline.Pipeline.cycle.Goals as goal
 
 -- a pipeline that is exhausted has no cycle left
 none_left : {A : Type 0} {cycle : ℕ} {all : Bool} → all ≡ nat_le (2 ^ 40) cycle → all ≡ true → cycle < 2 ^ 40 → A
 none_left is done counted = absurd (omega (arith, all_done is done, counted))
-
-pub returns-then-is_exhausted-clause-cycled : goal.returns-then-is_exhausted-clause-cycled
-returns-then-is_exhausted-clause-cycled g c = none_left c.is_exhausted.ensures.exhausted c.if-is_exhausted.true
-
-pub returns-then-is_exhausted-clause-true_cycle : goal.returns-then-is_exhausted-clause-true_cycle
-returns-then-is_exhausted-clause-true_cycle g c = none_left c.is_exhausted.ensures.exhausted c.if-is_exhausted.true
-
-pub returns-then-is_exhausted-clause-due_interrupt : goal.returns-then-is_exhausted-clause-due_interrupt
-returns-then-is_exhausted-clause-due_interrupt g c = none_left c.is_exhausted.ensures.exhausted c.if-is_exhausted.true
-
-pub returns-then-is_exhausted-clause-stall : goal.returns-then-is_exhausted-clause-stall
-returns-then-is_exhausted-clause-stall g c = none_left c.is_exhausted.ensures.exhausted c.if-is_exhausted.true
-
-pub next_cycle-requires : goal.next_cycle-requires
-next_cycle-requires g c = cycle_left c.is_exhausted.ensures.exhausted c.if-is_exhausted.false
-
-pub returns-clause-exhausted : goal.returns-clause-exhausted
-returns-clause-exhausted g c all =
-    absurd (omega (arith, all, cycle_left c.is_exhausted.ensures.exhausted c.if-is_exhausted.false))
 
 pub returns-clause-true_cycle : goal.returns-clause-true_cycle
 returns-clause-true_cycle g c counted =
@@ -40,9 +21,6 @@ returns-clause-true_cycle g c counted =
 if_due : {P : ℕ → Type 0} (o : Option ℕ) → ((code : ℕ) → o ≡ Some code → P code) → IfSome o P
 if_due None taken = tt
 if_due (Some code) taken = taken code refl
-
-pub returns-clause-due_interrupt : goal.returns-clause-due_interrupt
-returns-clause-due_interrupt g c counted = grind (arith, if_due, due_interrupt_is_taken, any_cycle)
 
 stalls_where : (none_dispatched : Bool) (stall : Option Stall) → IsCounted none_dispatched stall →
     is_some stall ≡ none_dispatched

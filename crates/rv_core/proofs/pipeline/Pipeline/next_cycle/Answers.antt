@@ -1,4 +1,4 @@
-use Rattle.rv_core.proofs.Words.{◌≡◌, sym, ap, ◌∙◌, arith, by_cycle, report_with}
+use Rattle.rv_core.proofs.Words.{◌≡◌, sym, ap, ◌∙◌, by_cycle, report_with}
 use Rattle.rv_hardware.proofs.AnyPrediction.{any_cycle}
 use Rattle.rv_core.proofs.Guiding.{cycle_from, cycle_with}
 use Rattle.rv_core.proofs.Taken.{listed_anew}
@@ -22,9 +22,3 @@ returns-clause-cycled g c =
     ∙ listed_anew done.1 (c.clear.ensures.kept ∙ c.self.invariant.lists) c.clear.ensures.none in
     cycle_with (ap (λ steps. report_with steps end) (sym listed))
     (cycle_from (c.deref_mut.ensures.value ∙ c.self.view_is) done.3)
-
-pub listed-requires : goal.listed-requires
-listed-requires g c = grind (arith, listed_anew)
-
-pub advance-end-requires-clause-room : goal.advance-end-requires-clause-room
-advance-end-requires-clause-room g c = c.clear.ensures.room (omega (arith, c.self.invariant.has_room))

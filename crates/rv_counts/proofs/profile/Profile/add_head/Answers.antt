@@ -1,8 +1,7 @@
-use Rattle.std.proofs.Common.{◌≡◌, ◌∙◌, ap, refl, set, sym}
+use Rattle.std.proofs.Common.{◌≡◌, ◌∙◌, ap, set, sym, arith}
 use Rattle.rv_passage.proofs.ByAddress.{in_order-made}
-use Rattle.rv_counts.specs.Order.{address_of, with_change}
-use Rattle.rv_counts.specs.Counts.{nothing_at, once_more_at_head}
-use Rattle.rv_counts.specs.Following.{Profiled}
+use Rattle.rv_counts.specs.Order.{with_change}
+use Rattle.rv_counts.specs.Counts.{once_more_at_head}
 use Rattle.rv_counts.proofs.Rooms.{can_count-at}
 use Rattle.rv_counts.proofs.profile.Profile.add_head.Goals as goal
 use Rattle.rv_counts.proofs.profile.Profile.add_head.Goals.{After-add_head}
@@ -24,11 +23,7 @@ made c =
     ∙ sym (c.place_of-place.ensures.changes once_more_at_head c.index_mut.result.now)
 
 pub returns-clause-words : goal.returns-clause-words
-returns-clause-words c =
-    made (goal.at.returns-clause-words c).After-add_head
-    ∙ ap (λ (p : Profiled). with_change c.args.address once_more_at_head p.words) c.self.view_is
+returns-clause-words c = grind (arith, made)
 
 pub invariant_of-self : goal.invariant_of-self
-invariant_of-self c =
-    in_order-made address_of nothing_at c.args.address once_more_at_head (λ w. refl) (λ a. refl)
-    c.self.inside.words.items _ c.self.invariant (made (goal.at.invariant_of-self c).After-add_head)
+invariant_of-self c = grind (arith, in_order-made, made)

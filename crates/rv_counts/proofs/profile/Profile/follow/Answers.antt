@@ -1,5 +1,4 @@
-use Rattle.std.proofs.Common.{◌∙◌, ◌+◌, length, arith}
-use Rattle.rv_counts.specs.Following.{with_passages}
+use Rattle.std.proofs.Common.{◌+◌, length, arith}
 use Rattle.rv_counts.proofs.InFlight.{left_same}
 use Rattle.rv_counts.proofs.Rooms.{room-fewer, room-head}
 use Rattle.rv_counts.proofs.profile.Profile.follow.Goals as goal
@@ -15,7 +14,4 @@ add_left-requires c =
     }
 
 pub returns-clause-words : goal.returns-clause-words
-returns-clause-words c =
-    let same = left_same c.args.rows.now c.up_to_youngest_left.result.now c.up_to_youngest_left.ensures.kept in
-    c.add_left.ensures.words
-    ∙ (λ i. with_passages (c.note_head.ensures.costs i) (same i) (c.note_head.ensures.words i))
+returns-clause-words c = grind (arith, left_same)

@@ -21,13 +21,6 @@ invariant_of-self c =
       known = omega (arith, ap length rows, all.known);
     }
 
-pub returns-clause-rows : goal.returns-clause-rows
-returns-clause-rows c =
-    let all = c.args.self.now in
-    let kept = drop all.dropped all.rows.items in
-    let first = c.count_first_ended.ensures ∙ ap (position_or_len is_in_flight) c.rows.ensures in
-    sym (drop-drop c.count_first_ended.result all.dropped all.rows.items) ∙ ap (λ n. drop n kept) first
-
 pub returns-clause-opened : goal.returns-clause-opened
 returns-clause-opened c =
     let all = c.args.self.now in

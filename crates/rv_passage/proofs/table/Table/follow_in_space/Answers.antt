@@ -5,9 +5,6 @@ use Rattle.rv_passage.proofs.Moving.{ended-with, steps-within}
 use Rattle.rv_passage.proofs.MovesOn.{moves_on, open-moves}
 use Rattle.rv_passage.proofs.table.Table.follow_in_space.Goals as goal
 
-pub append_fetched-requires-clause-room : goal.append_fetched-requires-clause-room
-append_fetched-requires-clause-room c = omega arith
-
 pub append_fetched-requires-clause-countable : goal.append_fetched-requires-clause-countable
 append_fetched-requires-clause-countable c = grind (arith, steps-within)
 

@@ -1,13 +1,7 @@
 use Rattle.std.proofs.Common.{rules}
 use Rattle.rv_text.proofs.Saying.{says_both, says_extends}
-use Rattle.rv_states.proofs.Showing.{can_follow, showing_early, showing_on}
+use Rattle.rv_states.proofs.Showing.{showing_early, showing_on}
 use Rattle.rv_states.proofs.running.StateWriterWatcher.see.Goals as goal
-
-pub follow_numbers-requires : goal.follow_numbers-requires
-follow_numbers-requires g c = let (start, seen, before, shown, showing) = c.requires.shown in can_follow shown showing
-
-pub follow-requires : goal.follow-requires
-follow-requires g c = let (start, seen, before, shown, showing) = c.requires.shown in can_follow shown showing
 
 pub returns-then-progress-self : goal.returns-then-progress-self
 returns-then-progress-self g c start seen before shown showing =

@@ -1,5 +1,5 @@
 -- Eight tags and values are written, and the bits of those that are woken are cleared.
-use Rattle.std.proofs.Common.{sym, ◌%◌, ◌^◌, ◌≡◌, ◌≤◌, ◌+◌, ◌∙◌, ap, ap₂, map, take, drop, length, List, ℕ, eqb, arith}
+use Rattle.std.proofs.Common.{sym, ◌%◌, ◌^◌, ◌≡◌, ◌≤◌, ◌+◌, ◌∙◌, ap₂, map, take, drop, length, eqb, arith}
 use Rattle.std.specs.Simd.Lanes.{zip2, mask_l}
 use Rattle.std.specs.Vec.{with_items}
 use Rattle.std.proofs.lemmas.Bool.{ne_eqb}
@@ -29,33 +29,20 @@ returns-then-like-eq0 c =
 pub wake_from-woken-requires-clause-within : goal.wake_from-woken-requires-clause-within
 wake_from-woken-requires-clause-within c = grind (arith, length-column)
 
-pub overflow_shl-self : goal.overflow_shl-self
-overflow_shl-self c = grind (arith, length-column)
-
 room : (c : goal.After-self-3-1) → c.args.start + 8 ≤ length c.self.inside.tags.items
 room c = omega (arith, rw (← c.self.view_is) at c.requires.within, length-column c.self.inside c.self.invariant)
 
 tags_are : (c : goal.After-self-3-1) →
     (with_items c.self.inside.tags c.wake_from-woken.new.tags).items
     ≡ in_eight c.args.start (map (woken_tag c.args.seq)) c.self.inside.tags.items
-tags_are c =
-    with_items_is c.self.inside.tags c.wake_from-woken.new.tags
-    (omega (arith, c.wake_from-woken.auto.tags, c.as_mut_slice.ensures.len))
-    ∙ c.wake_from-woken.ensures.tags
-    ∙ ap (in_eight c.args.start (map (woken_tag c.args.seq))) c.as_mut_slice.ensures.value
+tags_are c = grind (arith, with_items_is)
 
 values_are : (c : goal.After-self-3-1) →
     (with_items c.self.inside.values c.wake_from-woken.new.values).items
     ≡ in_eight c.args.start
     (zip2 (woken_value c.args.seq c.args.value) (take 8 (drop c.args.start c.self.inside.tags.items)))
     c.self.inside.values.items
-values_are c =
-    with_items_is c.self.inside.values c.wake_from-woken.new.values
-    (omega (arith, c.wake_from-woken.auto.values, c.as_mut_slice-2.ensures.len))
-    ∙ rw c.from.ensures at c.wake_from-woken.ensures.values
-    ∙ ap₂ (λ (ts vs : List ℕ). in_eight c.args.start
-    (zip2 (woken_value c.args.seq c.args.value) (take 8 (drop c.args.start ts))) vs) c.as_mut_slice.ensures.value
-    c.as_mut_slice-2.ensures.value
+values_are c = grind (arith, with_items_is)
 
 woken_are : (c : goal.After-self-3-1) →
     c.wake_from-woken.result

@@ -3,11 +3,8 @@ use Rattle.std.proofs.Common.{◌≡◌, ap, inl, inr, arith, w64}
 use Rattle.std.specs.Int.{bit_at, trailing_zeros}
 use Rattle.std.proofs.lemmas.Bool.{cases_eq}
 use Rattle.std.proofs.lemmas.Nat.Bits.{bit_at-trailing_zeros, bit_at-zero}
-use Rattle.rv_stations.proofs.WakingLemmas.{Waking-start, Waking-next, Waking-end}
+use Rattle.rv_stations.proofs.WakingLemmas.{Waking-next, Waking-end}
 use Rattle.rv_stations.proofs.column.OperandColumn.wake_groups.Goals as goal
-
-pub loop-left-init : goal.loop-left-init
-loop-left-init c = (omega arith, Waking-start c.args.seq c.args.value c.args.waiting c.args.self.now c.requires.waiting)
 
 pub returns-then-len-start : goal.returns-then-len-start
 returns-then-len-start c =

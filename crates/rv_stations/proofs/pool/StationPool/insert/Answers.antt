@@ -105,9 +105,3 @@ invariant_of-self c = record {
 
 pub returns : goal.returns
 returns c = grind (arith, waiting_are)
-
-pub marked-self-inside-requires : goal.marked-self-inside-requires
-marked-self-inside-requires c = grind (arith, room, length-pool, is, slice_get_read, place_there, few)
-
-pub marked-self-inside-requires-2 : goal.marked-self-inside-requires-2
-marked-self-inside-requires-2 c = grind (arith, room, length-pool, is, slice_get_read, place_there, few)

@@ -74,8 +74,5 @@ loop-at-preserved g c =
       ],
     )
 
-pub returns-clause-oldest : goal.returns-clause-oldest
-returns-clause-oldest g c = grind (arith, passed_whole)
-
 pub returns-clause-others : goal.returns-clause-others
 returns-clause-others g c = grind (arith, passed_whole)

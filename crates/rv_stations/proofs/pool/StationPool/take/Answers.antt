@@ -13,7 +13,7 @@ use Rattle.rv_stations.specs.PoolFields.{in_all, in_places, IsMarkedOther}
 use Rattle.rv_stations.proofs.MarkLemmas.{AreApart-take, marks-removed}
 use Rattle.rv_stations.proofs.PlaceLemmas.{All-insert, All-remove, All-others, AllPairs-insert, take-insert}
 use Rattle.rv_stations.proofs.PlaceLemmas.{take-remove}
-use Rattle.rv_stations.proofs.PoolLemmas.{length-pool, in_places-remove, place_there}
+use Rattle.rv_stations.proofs.PoolLemmas.{length-pool, in_places-remove}
 use Rattle.rv_stations.proofs.pool.StationPool.take.Goals as goal
 
 low : (c : goal.After-self-2-1) → c.args.at < c.self.inside.count
@@ -103,6 +103,3 @@ invariant_of-self c =
 
 pub returns-clause-others : goal.returns-clause-others
 returns-clause-others c = grind (arith, waiting_are)
-
-pub marked-self-inside-requires : goal.marked-self-inside-requires
-marked-self-inside-requires c = grind (arith, low, length-pool, slice_get_read, within, place_there)

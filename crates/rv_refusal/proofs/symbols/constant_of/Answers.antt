@@ -1,9 +1,0 @@
-use Rattle.std.proofs.Common.{arith}
-use Rattle.std.proofs.lemmas.Grind.{common_steps}
-use Rattle.rv_refusal.proofs.symbols.constant_of.Goals as goal
-
-pub returns-in-Name : goal.returns-in-Name
-returns-in-Name c = grind (arith, common_steps)
-
-pub returns-in_default : goal.returns-in_default
-returns-in_default c = grind (arith, common_steps)
