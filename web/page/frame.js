@@ -20,7 +20,7 @@ function showPage({ output }) {
   // (a word alone would be a place of the viewer, to which the browser scrolls)
   const place = [seenCycle === undefined ? "" : "cycle=" + seenCycle, followed === "" ? "" : "follow=" + followed, marksPath ? "path=" : ""].filter(Boolean).join("&");
   const frame = element("iframe", { title: "the run, cycle by cycle: the arrow keys step; ? has all keys", sandbox: "allow-scripts allow-downloads", id: "stepper", src: url + (place ? "#" + place : "") });
-  frame.onload = () => { if (!isWalking && [document.body, byId("tab-steps"), byId("shown")].includes(document.activeElement)) frame.focus(); };
+  frame.onload = () => { showColours(); if (!isWalking && [document.body, byId("tab-steps"), byId("shown")].includes(document.activeElement)) frame.focus(); };
   byId("shown").append(frame);
 }
 

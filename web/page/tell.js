@@ -8,6 +8,8 @@ addEventListener("drop", (event) => {
   const [file] = event.dataTransfer.files;
   if (file) { event.preventDefault(); parent.postMessage({ file }, "*"); }
 });
+// (the colours that were chosen for the page)
+addEventListener("message", ({ source, data }) => { if (source === parent && typeof data?.colours === "string") paint(data.colours); });
 let told = "";
 setInterval(() => {
   const cycle = document.documentElement.dataset.cycle, place = location.hash, now = cycle + place;
