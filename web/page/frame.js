@@ -31,6 +31,7 @@ addEventListener("message", (event) => {
   const frame = byId("stepper"), told = event.data;
   if (!frame || event.source !== frame.contentWindow || !told || typeof told !== "object") return;
   if (told.file instanceof File) return openFile(told.file);
+  if (told.beside === true) return say("Two runs stand side by side in pages that are saved: save run.html of each, and press 2 there.");
   if (/^-?\d{1,7}$/.test(told.cycle)) seenCycle = told.cycle;
   const place = String(told.place).slice(0, 200);
   if (told.place !== undefined) followed = (/follow=(\d{1,9})/.exec(place) || ["", ""])[1];
