@@ -147,8 +147,8 @@ def toml(description):
     """A description as a text."""
     if isinstance(description, str):
         return description
-    # A boolean, a number or a word is written alike in JSON and in TOML.
-    return "".join(f"{key} = {json.dumps(value)}\n" for key, value in flat(description).items())
+    # A boolean, a number or a word is written alike in JSON and in TOML. A date, which no key takes, is written as a word.
+    return "".join(f"{key} = {json.dumps(value, default=str)}\n" for key, value in flat(description).items())
 
 
 def job(assembly, description=None, arrivals=None):

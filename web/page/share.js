@@ -81,6 +81,9 @@ async function copyLater(link) {
   return navigator.clipboard.write([new ClipboardItem({ "text/plain": text })]);
 }
 
+// (someone else has not the file)
+const OF_A_FILE = location.protocol === "file:" ? " This page is a file: the link opens on this computer alone." : "";
+
 async function copyLink() {
   const made = addressOf(), copying = copyLater(made.then((address) => {
     if (address.length > MOST_ADDRESS) throw new TooMuch(address.length);
@@ -88,7 +91,7 @@ async function copyLink() {
   })).then(() => true, () => false);
   const address = await made, size = counted(address.length, "character");
   if (address.length > MOST_ADDRESS) return refuse("The job is too long for a link (" + size + "): save it as a file.");
-  const isThere = putAddress(address), holds = ": the job stands in it, in " + size + ".";
+  const isThere = putAddress(address), holds = ": the job stands in it, in " + size + "." + OF_A_FILE;
   if (await copying) return say("The link is copied" + holds);
   say(isThere ? "Nothing was copied, but the link stands in the address of the page" + holds : "The browser took no link; try again in ten seconds.", !isThere);
 }

@@ -147,10 +147,10 @@ function partsOf(text) {
 
 // A picture in the colours of the day, and in those of the night, of which the style sheet shows one: WebKit tells no picture which it is.
 function picture(bytes, words) {
-  const text = textOf(bytes), ofNight = text.replace("@media (prefers-color-scheme:dark)", "@media all");
+  const text = textOf(bytes), [ofDay, ofNight] = ["not all", "all"].map((when) => text.replace("@media (prefers-color-scheme:dark)", "@media " + when));
   const drawn = (className, svg, alt = words) => element("img", { className, src: urlOf(svg, "image/svg+xml"), alt });
-  const parts = partsOf(text).map((part, at) => drawn("", part, at === 0 ? words : ""));
-  return element("div", {}, drawn("day", bytes), drawn("night", ofNight), ...(parts.length ? [element("div", { className: "paper" }, ...parts)] : []));
+  const parts = partsOf(ofDay).map((part, at) => drawn("", part, at === 0 ? words : ""));
+  return element("div", {}, drawn("day", ofDay), drawn("night", ofNight), ...(parts.length ? [element("div", { className: "paper" }, ...parts)] : []));
 }
 
 function showPicture({ output, errors }) {

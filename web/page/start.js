@@ -174,6 +174,8 @@ function listen() {
   byId("show-job").onclick = () => shortcut("j");
   byId("as-form").onclick = () => setForm(true);
   byId("as-text").onclick = () => setForm(false);
+  byId("dark").onclick = turnColours;
+  systemIsDark.onchange = showColours;
   byId("help").onclick = () => byId("about").showModal();
   byId("close").onclick = () => byId("about").close();
   for (const part of PARTS) {
@@ -221,6 +223,7 @@ async function start() {
   listExamples();
   makeComparison();
   makeTabs(openTab);
+  showColours();
   chooseView("report", true);
   listen();
   if (!takeLeft() && !await readAddress()) loadExample(FIRST);
