@@ -1,12 +1,9 @@
 // The page to step through a run, as `page` prints it, in a frame that has no rights of this page: its scripts run apart, and say by a
-// message where they stand. TELL, TOUCH and NARROW stand before them; they are no part of what is saved.
+// message where they stand. TELL and TOUCH stand before them; they are no part of what is saved.
 const TELL = byId("tell").textContent;
 // (a finger needs more room than a mouse: WCAG 2.2, 2.5.8)
 const TOUCH = "<style>@media (pointer: coarse) { header :is(button, select, label, input:not([type=checkbox])) { min-width: 24px; min-height: 24px; }"
   + " header label { display: inline-flex; align-items: center; gap: 0.3rem; } }</style>";
-// (on a telephone the panels stand below each other: first the one that one steps through; the lists are no higher than what they hold)
-const NARROW = "<style>@media screen and (max-width: 60rem) { html body main { display: grid !important; grid-template-columns: minmax(0, 1fr); gap: 0; } html body #middle { order: -1; }"
-  + " html body .panel.grows:is([data-panel=source], [data-panel=memory]) { height: auto !important; max-height: 24rem; } }</style>";
 let followed = "";
 let seenCycle;
 let marksPath = false;
@@ -19,7 +16,7 @@ function showPathInSteps() {
 
 function showPage({ output }) {
   const html = textOf(output), head = html.indexOf("<head>") + "<head>".length;
-  const url = urlOf(html.slice(0, head) + "<script>" + TELL + "</" + "script>" + TOUCH + NARROW + html.slice(head), "text/html");
+  const url = urlOf(html.slice(0, head) + "<script>" + TELL + "</" + "script>" + TOUCH + html.slice(head), "text/html");
   // (a word alone would be a place of the viewer, to which the browser scrolls)
   const place = [seenCycle === undefined ? "" : "cycle=" + seenCycle, followed === "" ? "" : "follow=" + followed, marksPath ? "path=" : ""].filter(Boolean).join("&");
   const frame = element("iframe", { title: "the run, cycle by cycle: the arrow keys step; ? has all keys", sandbox: "allow-scripts allow-downloads", id: "stepper", src: url + (place ? "#" + place : "") });

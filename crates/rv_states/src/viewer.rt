@@ -5,7 +5,7 @@ pub(crate) const BEFORE: &[u8] = br#"<!DOCTYPE html>
 <html lang="en">
 <head>
 <meta charset="utf-8">
-<meta http-equiv="Content-Security-Policy" content="default-src 'none'; script-src 'sha256-zEqppLiY2e3BBIm+oWhLnaJao4ZVzDpyfsVWDqqqtXo='; style-src 'sha256-X+nUqAhUw+vtWP6m1C4DgGO+9ykT4W+yJnN2clUTuyQ='; img-src data:; frame-src 'self' file:; base-uri 'none'; form-action 'none'">
+<meta http-equiv="Content-Security-Policy" content="default-src 'none'; script-src 'sha256-zEqppLiY2e3BBIm+oWhLnaJao4ZVzDpyfsVWDqqqtXo='; style-src 'sha256-ktK5HCYH1BzdCxeiBhA5X0g8EDwFf4jccRx1zldW1mw='; img-src data:; frame-src 'self' file:; base-uri 'none'; form-action 'none'">
 <meta name="viewport" content="width=device-width, initial-scale=1">
 <title>rv_sim: a run, cycle by cycle</title>
 <style>
@@ -162,7 +162,12 @@ tr.on-path { background: var(--title); }
 .busy { background: #1f7a3d; color: #fff; } .fetch { background: #e3eefc; color: #000; } .serial { background: #8c1616; color: #fff; }
 .rob { background: #7fb2ea; color: #000; } .station { background: #fbe3a3; color: #000; } .store { background: #f0a848; color: #000; }
 .six { max-height: 6.4rem; } .ten { max-height: 10.2rem; } [data-panel="fetch"] .ten, [data-panel="stores"] .ten { max-height: 11.4rem; } .fourteen { max-height: 15.2rem; } .eighteen { max-height: 21.4rem; }
-@media screen and (max-width: 60rem) { html:not(.framed) body { height: auto; } html:not(.framed) main { display: block; } html:not(.framed) .column { margin-bottom: 0.4rem; } html:not(.framed) .panel.grows { height: 24rem; flex: none; } }
+/* In a narrow window the columns stand below each other, first that of the pipeline, and a list is no higher than what it holds. */
+@media screen and (max-width: 60rem) {
+  html:not(.framed) body { height: auto; } html:not(.framed) main { display: grid; grid-template-columns: minmax(0, 1fr); gap: 0; } html:not(.framed) .column { margin-bottom: 0.4rem; }
+  html:not(.framed) #middle { order: -1; }
+  html:not(.framed) .panel.grows { height: 24rem; flex: none; } html:not(.framed) .panel:is([data-panel="source"], [data-panel="memory"]) { height: auto; max-height: 24rem; }
+}
 /* Two runs side by side. */
 body.pair > header, body.pair > main { display: none; }
 #pair { display: flex; flex-direction: column; height: 100%; gap: 0.4rem; }
