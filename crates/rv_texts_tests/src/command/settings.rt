@@ -59,7 +59,7 @@ macro_rules! wrong_alone {
 fn a_wrong_value_of_a_users_own_is_reported_what_its_key_takes(
     rt: HostRuntime,
 ) -> Result<(), Fail> {
-    static CASES: [(&[&str], &str); 21] = [
+    static CASES: [(&[&str], &str); 23] = [
         wrong_alone!("rob=9999", "rob is a number from 1 to 256"),
         wrong_alone!("rob=", "rob is a number from 1 to 256"),
         wrong_alone!(
@@ -107,6 +107,27 @@ fn a_wrong_value_of_a_users_own_is_reported_what_its_key_takes(
         ),
         (
             &["rv_sim", "sensitivity", "--also=rob=1", "--also=rob=2"],
+            wrong!("rob=2", "its key is set twice"),
+        ),
+        (
+            &[
+                "rv_sim",
+                "sensitivity",
+                "--also=rob=1",
+                "--also=rob=2",
+                "--also=rob=3",
+            ],
+            wrong!("rob=2", "its key is set twice"),
+        ),
+        (
+            &[
+                "rv_sim",
+                "sensitivity",
+                "--also=forward=2",
+                "--also=rob=1",
+                "--also=rob=2",
+                "--also=rob=3",
+            ],
             wrong!("rob=2", "its key is set twice"),
         ),
         (
