@@ -1,7 +1,7 @@
 -- Jobs that are run one after the other.
 use Rattle.std.proofs.Common.{◌≡◌, ◌∙◌, ℕ, ◌+◌, ◌<◌, List, [], ◌∷◌, ◌++◌}
-use Rattle.std.proofs.Common.{length, take, get_or, sym, ap, subst}
-use Rattle.std.proofs.lemmas.List.{take_more}
+use Rattle.std.proofs.Common.{length, take, get_or, sym, ap, subst, arith}
+use Rattle.std.proofs.lemmas.List.{take_all, take_more}
 use Rattle.rv_job.specs.declared.job.Job.{Job}
 use Rattle.rv_report.specs.declared.losses.ComparedRun.{ComparedRun}
 use Rattle.rv_report.specs.declared.shown.TableOptions.{TableOptions}
@@ -16,3 +16,9 @@ run_more options jobs place below runs done job is run here =
     subst (λ l. AreRuns options l (runs ++ run ∷ []))
     (ap (λ j. take place jobs ++ j ∷ []) is ∙ sym (take_more jobs place job below))
     (AreRuns.another job done here)
+
+-- all are run
+pub all_run : (options : TableOptions) (jobs : List Job) (place : ℕ) (runs : List ComparedRun) → place ≡ length jobs →
+    AreRuns options (take place jobs) runs → AreRuns options jobs runs
+all_run options jobs place runs is done =
+    subst (λ l. AreRuns options l runs) (take_all place jobs (omega (arith, is))) done
