@@ -21,15 +21,6 @@ pub begun : {W A : Type 0} (contents : W → Option (List ℕ)) (buffer : BufWri
     → writer_inner buffer ≡ output → writer_buffer buffer ≡ [] → writer_contents contents buffer ≡ contents output
 begun contents buffer output is empty = grind (arith, contents, append-nil)
 
--- what an output holds is a beginning of what it and its buffer hold
-pub before_buffer : {W A : Type 0} (contents : W → Option (List ℕ)) (buffer : BufWriter W A) (output : W)
-    → output ≡ writer_inner buffer → HoldsBeginning (writer_contents contents buffer) (contents output) []
-before_buffer contents buffer output is = grind (arith, contents, append-nil)
-
--- what is kept is a beginning of itself
-pub whole_left : (held new : Option (List ℕ)) → Keeps held new → HoldsBeginning held new []
-whole_left held new kept = grind arith
-
 -- a beginning of what was kept
 pub kept_left : (old held new : Option (List ℕ)) → Keeps old held → HoldsBeginning held new [] →
     HoldsBeginning old new []
@@ -48,11 +39,6 @@ grown_left (Some old) (Some held) (Some new) n text grown (rest, is) = (
       ∙ append_assoc old (take n text) (drop n text)
       ∙ ap (λ l. old ++ l) (take-append-drop n text),
 )
-
--- what passes on what was kept passes on what it was kept from
-pub kept_on : (ended : Ended) (outcome : Result Ended SimError) (held between new : Option (List ℕ))
-    → Keeps held between → PassesOn (Ok ended) outcome between new → PassesOn (Ok ended) outcome held new
-kept_on ended outcome held between new kept left = grind (arith, kept_left)
 
 -- a task that ended into a buffer, which was passed on
 pub ended_passed_on : (task : Task) (predictor : Guide) (old held new : Option (List ℕ))

@@ -35,10 +35,3 @@ pub shown_whole : {Is : Stop → List ℕ → Type 0} (IsShownBy : RunEnd → Li
     IsText IsShownBy result old new
 shown_whole IsShownBy written old new writes same shows =
     subst (λ r. IsText IsShownBy r old new) (sym same) (written_whole IsShownBy written old new shows writes)
-
--- a picture, with the marks that are asked for
-pub shown_as : {T : Type 0} {Is : T → List ℕ → Type 0} (IsShownBy : T → List ℕ → Type 0) (written : Result T TextError)
-    (old new : Option (List ℕ))
-    → ((answer : T) (text : List ℕ) → Is answer text → IsShownBy answer text) → IsText Is written old new →
-    IsText IsShownBy written old new
-shown_as IsShownBy written old new shows is = grind arith

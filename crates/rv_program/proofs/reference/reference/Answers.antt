@@ -1,12 +1,7 @@
-use Rattle.std.proofs.Common.{refl}
 use Rattle.rv_program.specs.ReferenceReport.{IsReferenceReport}
 use Rattle.rv_program.proofs.Answered.{answered_on}
 use Rattle.rv_program.proofs.Referred.{run_referred}
 use Rattle.rv_program.proofs.reference.reference.Goals as goal
-
-pub returns-in_err-machine : goal.returns-in_err-machine
-returns-in_err-machine g c = answered_on (IsReferenceReport c.args.job.now c.args.options.now) _ _ _ _
-    c.from_residual.ensures.1 refl
 
 pub returns-in_err-write_reference : goal.returns-in_err-write_reference
 returns-in_err-write_reference g c =

@@ -1,4 +1,4 @@
-use Rattle.std.proofs.Common.{ℕ, List, refl, subst}
+use Rattle.std.proofs.Common.{ℕ, List, subst}
 use Rattle.std.specs.Io.KnownBytes.{Appends}
 use Rattle.rv_program.specs.Answer.{IsAnswer}
 use Rattle.rv_program.specs.CoreReport.{IsSimulation}
@@ -6,10 +6,6 @@ use Rattle.rv_program.proofs.Answered.{answered_on}
 use Rattle.rv_program.proofs.OneReport.{one_report_of}
 use Rattle.rv_program.proofs.Simulated.{run_simulated}
 use Rattle.rv_program.proofs.simulate.simulate.Goals as goal
-
-pub returns-in_err-steps-clause-report : goal.returns-in_err-steps-clause-report
-returns-in_err-steps-clause-report g c = answered_on (IsSimulation c.args.job.now _ c.args.options.now) _ _ _ _
-    c.from_residual.ensures.1 refl
 
 pub returns-in_err-write_run-clause-report : goal.returns-in_err-write_run-clause-report
 returns-in_err-write_run-clause-report g c =
