@@ -3,7 +3,7 @@ use Rattle.std.proofs.Common.{◌≡◌, ◌≢◌, ℕ, ◌<◌, ◌≤◌, Boo
 use Rattle.std.proofs.Common.{◌++◌, All, length, drop, slice_index_or, slice_set, Option, None, Some, refl, ap, sym}
 use Rattle.std.proofs.Common.{inl, inr, ◌∙◌, arith, eq-eqb, ne_eqb, get_or-set_same, get_or-set_other, length-set}
 use Rattle.std.proofs.lemmas.Bool.{cases_eq}
-use Rattle.std.specs.Option.{option_or, option_eq, IfSome}
+use Rattle.std.specs.Option.{option_or, option_eq}
 use Rattle.std.proofs.lemmas.Bool.Decides.{nat_tests}
 use Rattle.std.proofs.lemmas.List.Elements.{All-nil, All-cons, All-head, All-tail}
 use Rattle.rv_isa.specs.Numbered.{IsInOrder}
@@ -162,7 +162,3 @@ NoneAbove-youngest r n (p ∷ ps) order e =
           (NoneAbove-youngest r n ps (IsInOrder-tail seq_of p ps order) later)
     ] in
     go (youngest r ps) refl
-
--- what holds of each number that an option may be holds of the one that it is, if it is one
-pub IfSome-from : (x : Option ℕ) (P : ℕ → Type 0) → ((n : ℕ) → x ≡ Some n → P n) → IfSome x P
-IfSome-from x P h = grind arith
