@@ -1,5 +1,5 @@
 -- What `get_one` reads of a flag.
-use Rattle.std.proofs.Common.{◌≡◌, ◌≢◌, ℕ, Bool, true, false, List, Option, Some, None, Result, refl, codes}
+use Rattle.std.proofs.Common.{◌≡◌, ◌≢◌, arith, ℕ, Bool, true, false, List, Option, Some, None, Result, refl, codes}
 use Rattle.std.proofs.lemmas.Slice.Eq.{bytes_eq-Decides}
 use Rattle.std.specs.declared.str.ParseBoolError.{ParseBoolError}
 use Rattle.std.specs.Prelude.{unwrap_or}
@@ -16,11 +16,7 @@ named t true is = rw is refl
 named t false is = rw is refl
 
 other : (t : List ℕ) → t ≢ true_text → false ≡ bytes_eq t (codes "true")
-other t differs = go (bytes_eq t (codes "true")) refl
-  where
-    go : (b : Bool) → bytes_eq t (codes "true") ≡ b → false ≡ b
-    go true same = absurd (differs ((bytes_eq-Decides t (codes "true")).0 same))
-    go false _ = refl
+other t differs = grind (arith, bytes_eq-Decides t (codes "true"))
 
 -- what `bool` makes of a text
 abbrev Reads : List ℕ → Result Bool ParseBoolError → Type 0
@@ -34,8 +30,4 @@ text_read t None read = other t read.1.0
 pub flag_read : (f : Found) (name : List ℕ) (r : Option Bool) → (one_text f name ≡ None → r ≡ None)
     → ((t : List ℕ) → one_text f name ≡ Some t → ReadsOne Reads t r)
     → unwrap_or r false ≡ flag_in name (rows_of f)
-flag_read f name r none value = go (one_text f name) refl
-  where
-    go : (o : Option (List ℕ)) → one_text f name ≡ o → unwrap_or r false ≡ flag_in name (rows_of f)
-    go None is = rw (← one_text-rows f name, is, none is) refl
-    go (Some t) is = rw (← one_text-rows f name, is) (text_read t r (value t is))
+flag_read f name r none value = grind (arith, one_text-rows f name, text_read)

@@ -6,7 +6,7 @@ use Rattle.std.specs.declared.num.ParseIntError.{ParseIntError}
 use Rattle.std.specs.Prelude.{nat_le, nat_lt, if◌then◌else◌, option_and_then}
 use Rattle.std.specs.Str.Parse.{ExplainsUnsignedError, HasUnsignedDigitsIfOk}
 use Rattle.std.specs.Str.Parse.{ParsesUnsigned, digits_value, without_leading_plus}
-use Rattle.clap.specs.ValueTests.{is_numeral, is_unsigned_in}
+use Rattle.clap.specs.ValueTests.{is_numeral}
 use Rattle.clap.specs.Words.{ReadsOne, one_text, rows_of}
 use Rattle.clap.specs.declared.builder.value_parser.ValueParser.TheVariants as vp
 use Rattle.clap.specs.declared.parser.matches.Found.{Found}
@@ -23,8 +23,7 @@ pub legal_number : (low high : ℕ) (r : Option ℕ) (n : ℕ) → r ≡ Some n 
 legal_number low high r n is above below = rw (is, le-leb low n above, le-leb n high below) refl
 
 none_either : (n : ℕ) (b : Bool) → (if b && false then Some n else None) ≡ None
-none_either n true = refl
-none_either n false = refl
+none_either n b = grind arith
 
 -- one above it is not
 pub legal_over : (low high : ℕ) (r : Option ℕ) (n : ℕ) → r ≡ Some n → high < n → legal low high r ≡ None
@@ -46,14 +45,7 @@ number_read low high E t v parsed =
 
 none_read : (low high : ℕ) {E : Type 0} (t : List ℕ) (e : E) → ParsesUnsigned 64 10 t (Err e) →
     None ≡ number_from low high t
-none_read low high t e refused = go (is_unsigned_in low high t) refl
-  where
-    go : (b : Bool) → is_unsigned_in low high t ≡ b
-        → None ≡ (if b then Some (digits_value 10 (without_leading_plus t)) else None)
-    go true passes =
-        let accepted = accepts-Accepts false (vp.Unsigned low high) t passes in
-        absurd (refused (accepted.0, accepted.1))
-    go false _ = refl
+none_read low high t e refused = grind (arith, accepts-Accepts false (vp.Unsigned low high) t)
 
 text_read : (low high : ℕ) {E : Type 0} (gives : List ℕ → Result ℕ E → Type 0)
     → ((t : List ℕ) (x : Result ℕ E) → gives t x → ParsesUnsigned 64 10 t x)

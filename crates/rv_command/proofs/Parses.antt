@@ -1,6 +1,6 @@
 -- What a parse of the words of a command line comes to.
 use Rattle.std.proofs.Common.{◌≡◌, ◌⊎◌, ◌∙◌, ◌∷◌, [], true, List, None, ap, arith}
-use Rattle.std.proofs.Common.{false, inl, inr, length, Result, refl, subst, sym}
+use Rattle.std.proofs.Common.{false, length, Result, refl, subst, sym}
 use Rattle.std.proofs.lemmas.Bool.{ne_eqb}
 use Rattle.std.specs.Prelude.{option_and_then}
 use Rattle.clap.specs.Kinds.{or_else}
@@ -30,13 +30,10 @@ faulty (k ∷ ks) words e is among =
 -- words that are refused, except when out of memory, ask for no command
 pub refused_words : (words : List Text) (e : Error) → HasKind (fault_of program_arguments words) e
     → (command_of words ≡ None) ⊎ (kind_of e ≡ OutOfMemory)
-refused_words words e (inl memory) = inr memory
-refused_words words e (inr among) = inl (faulty (fault_of program_arguments words) words e refl among)
+refused_words words e has = grind (arith, faulty)
 
 kinds_or_other : (kinds next : Kinds) (e : Error) → HasKind kinds e → HasKind (or_else kinds next) e
-kinds_or_other [] next e (inl memory) = inl memory
-kinds_or_other [] next e (inr among) = absurd among
-kinds_or_other (k ∷ ks) next e has = has
+kinds_or_other kinds next e has = grind arith
 
 -- words that are refused have an error of a kind that they may have
 pub refused_kind : (words : List Text) (e : Error) → HasKind (fault_of program_arguments words) e →

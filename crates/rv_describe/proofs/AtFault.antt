@@ -1,5 +1,5 @@
 -- An entry that is read with a fault has a field with it.
-use Rattle.std.proofs.Common.{◌≡◌, ℕ, ℤ, Bool, false, List, Option, Some, None, option_map}
+use Rattle.std.proofs.Common.{◌≡◌, arith, ℕ, ℤ, Bool, false, List, Option, Some, option_map}
 use Rattle.rv_isa.specs.declared.lines.Line.{Line}
 use Rattle.rv_describe.specs.Entry.{arrival_with, cycle_of, level_of, line_named, reading_with}
 use Rattle.rv_describe.specs.Fault.{choice_fault, is_fault}
@@ -10,10 +10,7 @@ no_value : (cycle : Option ℕ) (line : Option Line) (level : Option Bool) (faul
     → is_fault (choice_fault (Some cycle)) fault ≡ false → is_fault (choice_fault (Some line)) fault ≡ false
     → is_fault (choice_fault (Some level)) fault ≡ false
     → is_fault (choice_fault (Some (arrival_with cycle line level))) fault ≡ false
-no_value None line level fault first second third = first
-no_value (Some cycle) None level fault first second third = second
-no_value (Some cycle) (Some line) None fault first second third = third
-no_value (Some cycle) (Some line) (Some level) fault first second third = first
+no_value cycle line level fault first second third = grind arith
 
 -- where no field has the fault, the entry is not read with it
 pub no_field : (cycle : Option ℤ) (line : Option (List ℕ)) (level : Option ℤ) (fault : ValueFault)
@@ -21,8 +18,4 @@ pub no_field : (cycle : Option ℤ) (line : Option (List ℕ)) (level : Option �
     is_fault (choice_fault (option_map line_named line)) fault ≡ false
     → is_fault (choice_fault (option_map level_of level)) fault ≡ false →
     is_fault (choice_fault (reading_with cycle line level)) fault ≡ false
-no_field None line level fault first second third = first
-no_field (Some cycle) None level fault first second third = second
-no_field (Some cycle) (Some line) None fault first second third = third
-no_field (Some cycle) (Some line) (Some level) fault first second third =
-    no_value (cycle_of cycle) (line_named line) (level_of level) fault first second third
+no_field cycle line level fault first second third = grind (arith, no_value)

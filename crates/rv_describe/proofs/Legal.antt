@@ -1,6 +1,5 @@
 -- The legal texts: a table has no first error exactly where it is faultless, and then gives values that their keys take.
-use Rattle.std.proofs.Common.{◌≡◌, ℕ, zero, suc, ◌+◌, ℤ, Bool, true, false, List, [], ◌∷◌, Option, Some, None}
-use Rattle.std.proofs.Common.{IsNone, IsOk, Ok, Err, Result, unwrap_or, inl, inr, refl, sym, ◌∙◌, ◌↔◌, arith}
+use Rattle.std.proofs.Common.{◌≡◌, ℕ, zero, suc, ◌+◌, ℤ, Bool, true, false, List, [], ◌∷◌, Option, Some, None, IsNone, IsOk, Ok, Err, Result, unwrap_or, inl, inr, refl, sym, ◌∙◌, ◌↔◌, arith}
 use Rattle.std.specs.Option.{option_and_then, option_flatten, option_map, option_or, option_map_or}
 use Rattle.std.specs.List.{position_from, slice_get}
 use Rattle.std.proofs.lemmas.Bool.{cases_Bool}
@@ -13,8 +12,7 @@ use Rattle.rv_isa.specs.Bounds.{takes}
 use Rattle.rv_isa.specs.Key.{ObeysEachKey, key_place, number_of, order, row_of}
 use Rattle.rv_isa.specs.Standard.{standard_values}
 use Rattle.rv_isa.proofs.LegalKeys.{in_order, number_of-values_with, standard_taken}
-use Rattle.rv_describe.specs.declared.{description_error.DescriptionError.DescriptionError}
-use Rattle.rv_describe.specs.declared.{faults.ValueFault.ValueFault}
+use Rattle.rv_describe.specs.declared.{description_error.DescriptionError.DescriptionError, faults.ValueFault.ValueFault}
 use Rattle.rv_describe.specs.declared.description_error.DescriptionError.TheVariants as error
 use Rattle.rv_describe.specs.declared.faults.ValueFault.TheVariants.{WrongKind, OutOfRange, NotPowerOfTwo}
 use Rattle.rv_describe.specs.Description.{IsFaultless, IsLegalText, described, first_error}
@@ -76,12 +74,7 @@ no_place t fault none =
 
 first_error-faultless : (t : Members) → IsFaultless t → first_error t ≡ None
 first_error-faultless t legal =
-    rw (
-      legal.known,
-      no_place t WrongKind legal.keys,
-      no_place t OutOfRange legal.keys,
-      no_place t NotPowerOfTwo legal.keys,
-    )
+    grind (arith, no_place, legal.keys)
 
 -- what is described without an error has none
 no_error : (found : Option DescriptionError) (values : Values) →
@@ -101,24 +94,19 @@ described-legal bytes t answer is_text is = (
 -- the number that is held, or the default, is taken where it has no fault
 word_taken : (bounds : Bounds) (size default : ℕ) (word : Option ℕ) → number_fault bounds size (Some word) ≡ None →
     takes bounds size default ≡ true → takes bounds size (unwrap_or word default) ≡ true
-word_taken bounds size default None none base = base
-word_taken bounds size default (Some n) none base = grind arith
+word_taken bounds size default word none base = grind arith
 
 integer_taken : (bounds : Bounds) (size default : ℕ) (integer : Option ℤ) →
     number_fault bounds size (option_map word_of integer) ≡ None → takes bounds size default ≡ true
     → takes bounds size (unwrap_or (option_and_then word_of integer) default) ≡ true
-integer_taken bounds size default None none base = base
-integer_taken bounds size default (Some z) none base = word_taken bounds size default (word_of z) none base
+integer_taken bounds size default integer none base = grind (arith, word_taken)
 
 held_taken : (key : NumberKey) (size default : ℕ) (found : Option (Option Data)) →
     option_map_or (option_and_then (value_fault (Number key) size)) found (Some WrongKind) ≡ None →
     takes (row_of key).bounds size default ≡ true
     → takes (row_of key).bounds size
     (unwrap_or (option_and_then word_of (option_and_then as_integer (option_flatten found))) default) ≡ true
-held_taken key size default None none base = base
-held_taken key size default (Some None) none base = base
-held_taken key size default (Some (Some value)) none base =
-    integer_taken (row_of key).bounds size default (as_integer value) none base
+held_taken key size default found none base = grind (arith, integer_taken)
 
 taken : (t : Members) → IsFaultless t → (key : NumberKey) →
     takes (row_of key).bounds (number t RamSize) (number t key) ≡ true

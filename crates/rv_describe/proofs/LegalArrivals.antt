@@ -1,6 +1,6 @@
 -- Arrivals in range and in order are legal.
 use Rattle.std.proofs.Common.{◌≡◌, ℕ, zero, suc, ◌+◌, ◌<◌, ◌≤◌, List, [], ◌∷◌}
-use Rattle.std.proofs.Common.{length, get_or, Option, Some, None, refl, arith}
+use Rattle.std.proofs.Common.{length, get_or, Option, Some, None, arith}
 use Rattle.std.specs.List.{filter_map, cons_option, AllByRecursion}
 use Rattle.std.proofs.lemmas.Bool.Decides.{nat_tests}
 use Rattle.std.proofs.lemmas.List.Elements.{All-from_recursion}
@@ -14,8 +14,8 @@ use Rattle.rv_describe.specs.Entry.{arrival_of}
 -- no cycle is below the one before
 adjacent : (number before : ℕ) (arrivals : List Arrival) → first_fall number before arrivals ≡ None →
     (k : ℕ) (d : Arrival) → k + 1 < length arrivals → (get_or arrivals k d).cycle ≤ (get_or arrivals (k + 1) d).cycle
-adjacent number before [] none k d within = absurd (omega arith)
-adjacent number before (a ∷ []) none k d within = absurd (omega arith)
+adjacent number before [] none k d within = grind arith
+adjacent number before (a ∷ []) none k d within = grind arith
 adjacent number before (a ∷ b ∷ later) none zero d within = grind (arith, nat_tests)
 adjacent number before (a ∷ b ∷ later) none (suc k) d within =
     grind (arith, nat_tests, adjacent (number + 1) a.cycle (b ∷ later))
@@ -27,8 +27,7 @@ within entry arrival found = grind (arith, nat_tests)
 one_within : (o : Option Arrival) (later : List Arrival) →
     ((arrival : Arrival) → o ≡ Some arrival → arrival.cycle ≤ 1000000) → AllByRecursion (λ a. a.cycle ≤ 1000000) later →
     AllByRecursion (λ a. a.cycle ≤ 1000000) (cons_option o later)
-one_within None later here rest = rest
-one_within (Some arrival) later here rest = (here arrival refl, rest)
+one_within o later here rest = grind arith
 
 all_within : (entries : List Data) → AllByRecursion (λ a. a.cycle ≤ 1000000) (arrivals_of entries)
 all_within [] = tt

@@ -1,8 +1,9 @@
 -- The checkpoints that a list of numbers stands for, after each change of the producers.
 use Rattle.std.proofs.Common.{◌≡◌, ℕ, ◌+◌, ◌<◌, ◌≤◌, Bool, true, false, ◌==◌, if◌then◌else◌, List, [], ◌∷◌, ◌++◌}
-use Rattle.std.proofs.Common.{append-nil, map, filter, refl, ap, sym, ◌∙◌, arith, eq-eqb, ne_eqb, eqb-true, inl, inr}
-use Rattle.std.proofs.lemmas.Bool.{cases_lt, lt-ltb, le-ltb, eqb-false}
+use Rattle.std.proofs.Common.{append-nil, map, filter, refl, ap, sym, ◌∙◌, arith, inl, inr}
+use Rattle.std.proofs.lemmas.Bool.{cases_lt}
 use Rattle.std.specs.List.{list_any}
+use Rattle.std.proofs.lemmas.Bool.Decides.{nat_tests}
 use Rattle.std.proofs.lemmas.List.Elements.{All-nil}
 use Rattle.rv_isa.specs.Numbered.{below, AreBelow, IsInOrder}
 use Rattle.rv_isa.proofs.Numbered.{below-append, below-stays, below-goes, below-all, below-none, below-stops}
@@ -44,8 +45,7 @@ checkpoints-push (m ∷ ns) n ps are = ap (λ cs. checkpoint_of ps m ∷ cs) (ch
 -- without a producer, where it is the oldest
 oldest-stays : (b : Bool) (n : ℕ) (p : Producer) (ps : List Producer) → p.seq < n
     → (if b then below seq_of n ps else p ∷ below seq_of n ps) ≡ below seq_of n (if b then ps else p ∷ ps)
-oldest-stays true n p ps low = refl
-oldest-stays false n p ps low = sym (below-stays seq_of n p ps low)
+oldest-stays b n p ps low = grind (arith, below-stays seq_of n p ps low)
 
 oldest-goes : (b : Bool) (n : ℕ) (p : Producer) (ps : List Producer) → IsInOrder seq_of (p ∷ ps) → n ≤ p.seq
     → [] ≡ below seq_of n (if b then ps else p ∷ ps)
@@ -77,49 +77,28 @@ pub checkpoints-restore : (n : ℕ) (ns : List ℕ) (ps : List Producer)
     → below checkpoint_seq n (map (checkpoint_of ps) ns) ≡ map (checkpoint_of (below seq_of n ps)) (below (λ m. m) n ns)
 checkpoints-restore n [] ps = refl
 checkpoints-restore n (m ∷ ns) ps =
-    elim (cases_lt m n) [
-      | inl low ↦ rw (lt-ltb m n low, below-below seq_of (m + 1) n ps (omega arith), checkpoints-restore n ns ps) refl
-      | inr high ↦ rw (le-ltb m n high) (checkpoints-restore n ns ps)
-    ]
-
-checkpoints-choice : (b : Bool) (m : ℕ) (ns : List ℕ) (ps : List Producer)
-    → (if b then checkpoint_of ps m ∷ map (checkpoint_of ps) ns else map (checkpoint_of ps) ns)
-    ≡ map (checkpoint_of ps) (if b then m ∷ ns else ns)
-checkpoints-choice true m ns ps = refl
-checkpoints-choice false m ns ps = refl
+    grind (arith, nat_tests, below-below seq_of (m + 1) n ps, checkpoints-restore n ns ps)
 
 -- the checkpoints whose numbers pass a test are those of the numbers that pass
 pub checkpoints-filter : (test : ℕ → Bool) (ns : List ℕ) (ps : List Producer)
     → filter (λ c. test c.seq) (map (checkpoint_of ps) ns) ≡ map (checkpoint_of ps) (filter test ns)
 checkpoints-filter test [] ps = refl
 checkpoints-filter test (m ∷ ns) ps =
-    rw (checkpoints-filter test ns ps) (checkpoints-choice (test m) m (filter test ns) ps)
+    grind (arith, checkpoints-filter test ns ps)
 
 -- the producers of a checkpoint that is held
 pub producers_at-held : (n : ℕ) (ns : List ℕ) (ps now : List Producer) → list_any (λ m. m == n) ns ≡ true
     → producers_at n (map (checkpoint_of ps) ns) now ≡ below seq_of (n + 1) ps
 producers_at-held n [] ps now held = absurd (cc)
 producers_at-held n (m ∷ ns) ps now held =
-    let go : (b : Bool) → (m == n) ≡ b → producers_at n (map (checkpoint_of ps) (m ∷ ns)) now
-    ≡ below seq_of (n + 1) ps =
-    λ b. elim b as (λ b. (m == n) ≡ b → producers_at n (map (checkpoint_of ps) (m ∷ ns)) now
-    ≡ below seq_of (n + 1) ps) [
-      | true ↦ λ e. let same : m ≡ n = eqb-true m n e in rw (eq-eqb n m (sym same), same) refl
-      | false ↦ λ e. rw (ne_eqb n m (λ same. eqb-false m n e (sym same))) (producers_at-held n ns ps now (rw e at held))
-    ] in
-    go (m == n) refl
+    grind (arith, nat_tests, producers_at-held n ns ps now)
 
 -- with no such checkpoint, they are those of now
 pub producers_at-none : (n : ℕ) (ns : List ℕ) (ps now : List Producer) → list_any (λ m. m == n) ns ≡ false
     → producers_at n (map (checkpoint_of ps) ns) now ≡ now
 producers_at-none n [] ps now none = refl
 producers_at-none n (m ∷ ns) ps now none =
-    let go : (b : Bool) → (m == n) ≡ b → producers_at n (map (checkpoint_of ps) (m ∷ ns)) now ≡ now =
-    λ b. elim b as (λ b. (m == n) ≡ b → producers_at n (map (checkpoint_of ps) (m ∷ ns)) now ≡ now) [
-      | true ↦ λ e. absurd (let t : true ≡ false = rw e at none in cc)
-      | false ↦ λ e. rw (ne_eqb n m (λ same. eqb-false m n e (sym same))) (producers_at-none n ns ps now (rw e at none))
-    ] in
-    go (m == n) refl
+    grind (arith, nat_tests, producers_at-none n ns ps now)
 
 -- the numbers say whether every checkpoint is below n
 pub AreBelow-checkpoints : (n : ℕ) (ns : List ℕ) (ps : List Producer)

@@ -1,6 +1,6 @@
 -- The producers in order of numbers: the last of them, and those up to a number, one by one.
 use Rattle.std.proofs.Common.{◌≡◌, ℕ, ◌+◌, ◌-◌, ◌<◌, ◌≤◌, List, [], ◌∷◌, ◌++◌, length, take, drop, slice_get}
-use Rattle.std.proofs.Common.{slice_index_or, None, Some, zero, suc, refl, ap, sym, ◌∙◌, add-one, arith}
+use Rattle.std.proofs.Common.{None, Some, zero, suc, refl, ap, ◌∙◌, add-one, arith}
 use Rattle.std.proofs.lemmas.Option.{slice_get-get_or}
 use Rattle.rv_isa.specs.Numbered.{below, AreBelow, IsInOrder}
 use Rattle.rv_isa.proofs.Numbered.{below-stays, below-stops, AreBelow-last, AreBelow-slice_get, IsInOrder-drop}
@@ -23,8 +23,7 @@ AreBelow-tells n ps q order last = (
 pub AreBelow-empty : (n : ℕ) (ps : List Producer) → slice_get ps (length ps - 1) ≡ None → AreBelow seq_of n ps
 AreBelow-empty n [] e = λ k d within. absurd (omega arith)
 AreBelow-empty n (p ∷ ps) e =
-    let some = slice_get-get_or (p ∷ ps) (length (p ∷ ps) - 1) p (omega arith) in
-    absurd (let no : Some (slice_index_or (p ∷ ps) (length (p ∷ ps) - 1) p) ≡ None = sym some ∙ e in cc)
+    grind (arith, slice_get-get_or (p ∷ ps) (length (p ∷ ps) - 1) p)
 
 drop-get : (i : ℕ) (ps : List Producer) (p : Producer) → slice_get ps i ≡ Some p → drop i ps ≡ p ∷ drop (suc i) ps
 drop-get i [] p e = absurd (cc)
@@ -53,5 +52,4 @@ pub below-end : (n i : ℕ) (ps : List Producer) (p : Producer) → IsInOrder se
     → below seq_of n (drop i ps) ≡ []
 below-end n i ps p order e h =
     let rest = drop-get i ps p e in
-    ap (below seq_of n) rest
-    ∙ below-stops seq_of n p (drop (suc i) ps) (rw rest at (IsInOrder-drop seq_of i ps order)) h
+    rw rest (below-stops seq_of n p (drop (suc i) ps) (rw rest at (IsInOrder-drop seq_of i ps order)) h)

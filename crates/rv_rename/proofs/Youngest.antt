@@ -1,9 +1,10 @@
 -- The youngest producer of a register, and the table of them.
 use Rattle.std.proofs.Common.{◌≡◌, ◌≢◌, ℕ, ◌<◌, ◌≤◌, Bool, true, false, ◌==◌, nat_eq, if◌then◌else◌, List, [], ◌∷◌}
 use Rattle.std.proofs.Common.{◌++◌, All, length, drop, slice_index_or, slice_set, Option, None, Some, refl, ap, sym}
-use Rattle.std.proofs.Common.{◌∙◌, arith, eq-eqb, ne_eqb, eqb-true, get_or-set_same, get_or-set_other, length-set}
-use Rattle.std.proofs.lemmas.Bool.{eqb-false, and_parts}
-use Rattle.std.specs.Option.{option_or, option_eq, IfSome}
+use Rattle.std.proofs.Common.{inl, inr, ◌∙◌, arith, eq-eqb, ne_eqb, get_or-set_same, get_or-set_other, length-set}
+use Rattle.std.proofs.lemmas.Bool.{cases_eq}
+use Rattle.std.specs.Option.{option_or, option_eq}
+use Rattle.std.proofs.lemmas.Bool.Decides.{nat_tests}
 use Rattle.std.proofs.lemmas.List.Elements.{All-nil, All-cons, All-head, All-tail}
 use Rattle.rv_isa.specs.Numbered.{IsInOrder}
 use Rattle.rv_isa.proofs.Numbered.{IsInOrder-head, IsInOrder-tail}
@@ -14,21 +15,15 @@ use Rattle.rv_rename.proofs.Prefixes.{seq_of}
 
 option_or-if : (b : Bool) (n : ℕ) (x y : Option ℕ) → option_or (if b then Some n else x) y
     ≡ (if b then Some n else option_or x y)
-option_or-if true n x y = refl
-option_or-if false n x y = refl
+option_or-if b n x y = grind arith
 
 option_or-none : (x : Option ℕ) → option_or x None ≡ x
-option_or-none None = refl
-option_or-none (Some n) = refl
+option_or-none x = grind arith
 
 -- two registers are one, or the test tells them apart
 by_register : (P : Type 0) (r s : ℕ) → (r ≡ s → P) → (r ≢ s → P) → P
 by_register P r s same other =
-    let go : (b : Bool) → (r == s) ≡ b → P = λ b. elim b as (λ b. (r == s) ≡ b → P) [
-      | true ↦ λ e. same (eqb-true r s e)
-      | false ↦ λ e. other (eqb-false r s e)
-    ] in
-    go (r == s) refl
+    elim (cases_eq r s) [ inl is ↦ same is | inr ne ↦ other ne ]
 
 youngest-push : (r : ℕ) (ps : List Producer) (p : Producer)
     → youngest r (ps ++ p ∷ []) ≡ (if r == p.register then Some p.seq else youngest r ps)
@@ -51,9 +46,7 @@ IsTable-push table ps p number is =
 
 youngest-head : (low n m : ℕ) (b : Bool) (later : Option ℕ) → low < m → ((k : ℕ) → later ≡ Some k → low < k)
     → option_or later (if b then Some m else None) ≡ Some n → low < n
-youngest-head low n m b (Some k) h above e = let is : k ≡ n = cc in omega (arith, above k refl)
-youngest-head low n m true None h above e = let is : m ≡ n = cc in omega arith
-youngest-head low n m false None h above e = absurd (cc)
+youngest-head low n m b later h above e = grind arith
 
 -- where all numbers are above one, the youngest has one above it
 youngest-above : (r low n : ℕ) (ps : List Producer) → All (λ p. low < p.seq) ps → youngest r ps ≡ Some n → low < n
@@ -65,12 +58,10 @@ youngest-above r low n (p ∷ ps) above e =
 -- where the oldest is the youngest of its register, no later one writes that register
 youngest-gone : (m : ℕ) (later first : Option ℕ) → ((k : ℕ) → later ≡ Some k → m < k) → option_or later first ≡ Some m →
     later ≡ None
-youngest-gone m None first above e = refl
-youngest-gone m (Some k) first above e = let is : k ≡ m = cc in absurd (omega (arith, above k refl))
+youngest-gone m later first above e = grind arith
 
 youngest-later : (m : ℕ) (later : Option ℕ) → option_or later (Some m) ≢ Some m → option_or later (Some m) ≡ later
-youngest-later m (Some k) other = refl
-youngest-later m None other = absurd (other refl)
+youngest-later m later other = grind arith
 
 youngest-others : (r : ℕ) (p : Producer) (ps : List Producer) → r ≢ p.register → youngest r (p ∷ ps) ≡ youngest r ps
 youngest-others r p ps ne = rw (ne_eqb r p.register ne) (option_or-none (youngest r ps))
@@ -82,8 +73,7 @@ youngest-own r p ps same = rw (eq-eqb r p.register same) refl
 is_oldest-parts : (register n : ℕ) (p : Producer) (ps : List Producer) → is_oldest register n (p ∷ ps) ≡ true
     → (n ≡ p.seq) × (register ≡ p.register)
 is_oldest-parts register n p ps oldest =
-    let parts = and_parts (n == p.seq) (register == p.register) oldest in
-    (eqb-true n p.seq parts.0, eqb-true register p.register parts.1)
+    (grind (arith, nat_tests), grind (arith, nat_tests))
 
 -- once the oldest has retired, and was the youngest of its register, that register has none
 pub IsTable-retire : (table : List (Option ℕ)) (register n : ℕ) (ps : List Producer) → register < 32 →
@@ -130,17 +120,14 @@ IsTable-keep table register n (p ∷ ps) oldest is other =
 
 -- what a comparison of options reports
 pub option_eq-true : (x : Option ℕ) (n : ℕ) → option_eq nat_eq x (Some n) ≡ true → x ≡ Some n
-option_eq-true None n e = absurd (cc)
-option_eq-true (Some m) n e = ap (λ k. Some k) (eqb-true m n e)
+option_eq-true x n e = grind (arith, nat_tests)
 
 -- an option that is found to differ from a number is not that number
 pub option_eq-false : (x : Option ℕ) (n : ℕ) → option_eq nat_eq x (Some n) ≡ false → x ≢ Some n
-option_eq-false None n e same = cc
-option_eq-false (Some m) n e same = let is : m ≡ n = cc in eqb-false m n e is
+option_eq-false x n e same = grind (arith, nat_tests)
 
 option_or-some : (x : Option ℕ) (n : ℕ) → option_or x (Some n) ≡ None → ⊥
-option_or-some None n e = cc
-option_or-some (Some m) n e = cc
+option_or-some x n e = grind arith
 
 -- what a register's highest number says of a producer
 abbrev IsNotAbove : ℕ → ℕ → Producer → Type 0
@@ -175,8 +162,3 @@ NoneAbove-youngest r n (p ∷ ps) order e =
           (NoneAbove-youngest r n ps (IsInOrder-tail seq_of p ps order) later)
     ] in
     go (youngest r ps) refl
-
--- what holds of each number that an option may be holds of the one that it is, if it is one
-pub IfSome-from : (x : Option ℕ) (P : ℕ → Type 0) → ((n : ℕ) → x ≡ Some n → P n) → IfSome x P
-IfSome-from None P h = tt
-IfSome-from (Some n) P h = h n refl

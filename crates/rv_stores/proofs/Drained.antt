@@ -1,10 +1,9 @@
 -- The start of a drain changes the oldest store.
-use Rattle.std.proofs.Common.{◌≡◌, ℕ, suc, true, List, [], ◌∷◌, slice_get, slice_set, Some, None, refl, ap, arith}
+use Rattle.std.proofs.Common.{◌≡◌, ℕ, suc, true, List, [], ◌∷◌, slice_get, slice_set, Some, None, arith}
 use Rattle.std.proofs.lemmas.List.Kept.{AllPairs-cons}
 use Rattle.rv_isa.specs.Numbered.{IsInOrder}
 use Rattle.rv_isa.proofs.Numbered.{IsInOrder-cons, IsInOrder-head, IsInOrder-tail}
 use Rattle.rv_stores.specs.declared.store.StoreState.{StoreState}
-use Rattle.rv_stores.specs.declared.store.StoreState.TheVariants.{Waiting, Faulted, Filled}
 use Rattle.rv_stores.specs.declared.store.Store.{Store}
 use Rattle.rv_stores.specs.Store.{draining, is_committed, is_committed_state}
 use Rattle.rv_stores.specs.Queue.{with_oldest_draining, ComeFirst}
@@ -16,13 +15,11 @@ draining_store s = record s { state = draining s.state }
 -- the start of a drain replaces the store at the first place by the draining one
 pub with_oldest_draining-set : (ss : List Store) (x : Store) → slice_get ss 0 ≡ Some x →
     with_oldest_draining ss ≡ slice_set ss 0 (draining_store x)
-with_oldest_draining-set [] x at = absurd (cc)
-with_oldest_draining-set (s ∷ ss) x at = let same : s ≡ x = cc in ap (λ t. draining_store t ∷ ss) same
+with_oldest_draining-set ss x at = grind arith
 
 -- where there is no store, the start of a drain changes nothing
 pub with_oldest_draining-same : (ss : List Store) → slice_get ss 0 ≡ None → with_oldest_draining ss ≡ ss
-with_oldest_draining-same [] at = refl
-with_oldest_draining-same (s ∷ ss) at = absurd (cc)
+with_oldest_draining-same ss at = grind arith
 
 -- the start of a drain leaves the numbers in order
 pub IsInOrder-draining : (ss : List Store) → IsInOrder (λ s. s.seq) ss →
@@ -33,9 +30,7 @@ IsInOrder-draining (s ∷ ss) h =
     IsInOrder-cons seq (draining_store s) ss (IsInOrder-head seq s ss h) (IsInOrder-tail seq s ss h)
 
 committed-draining : (state : StoreState) → is_committed_state state ≡ true → is_committed_state (draining state) ≡ true
-committed-draining Waiting h = h
-committed-draining Faulted h = h
-committed-draining (Filled access phase) h = refl
+committed-draining state h = grind arith
 
 -- the start of a drain leaves the committed stores first
 pub ComeFirst-draining : (ss : List Store) → ComeFirst is_committed ss →

@@ -1,6 +1,6 @@
 -- Stores laid over one another, the oldest first, give the bytes of the youngest.
-use Rattle.std.proofs.Common.{◌≡◌, ℕ, ◌+◌, Bool, true, false, cond, List, [], ◌∷◌, ◌++◌}
-use Rattle.std.proofs.Common.{filter, nat_lt, Option, Some, None, refl, sym, ap, ◌∙◌}
+use Rattle.std.proofs.Common.{◌≡◌, ℕ, ◌+◌, Bool, cond, List, [], ◌∷◌, ◌++◌}
+use Rattle.std.proofs.Common.{filter, arith, nat_lt, Option, None, refl, sym, ap, ◌∙◌}
 use Rattle.std.specs.List.{fold}
 use Rattle.std.specs.Option.{option_or}
 use Rattle.std.proofs.lemmas.List.Elements.{filter-append}
@@ -10,12 +10,10 @@ use Rattle.rv_stores.specs.Store.{byte_at, laid_over}
 use Rattle.rv_stores.specs.Queue.{forwarded, youngest_byte}
 
 option_or_assoc : (a b c : Option ℕ) → option_or (option_or a b) c ≡ option_or a (option_or b c)
-option_or_assoc None b c = refl
-option_or_assoc (Some x) b c = refl
+option_or_assoc a b c = grind arith
 
 option_or-none : (a : Option ℕ) → option_or a None ≡ a
-option_or-none None = refl
-option_or-none (Some x) = refl
+option_or-none a = grind arith
 
 fold-laid_from : (place : ℕ) (ss : List Store) (found : Option ℕ) →
     fold (λ found s. option_or (byte_at place s) found) found ss ≡ option_or (youngest_byte place ss) found
@@ -41,23 +39,12 @@ module _ (address count : ℕ) where
   over_byte ss found offset =
       cond (nat_lt offset count) (option_or (youngest_byte (address + offset) ss) found) found
 
-  over_byte-cons : (b : Bool) (rest own found : Option ℕ) →
-      cond b (option_or rest (cond b (option_or own found) found)) (cond b (option_or own found) found)
-      ≡ cond b (option_or (option_or rest own) found) found
-  over_byte-cons true rest own found = sym (option_or_assoc rest own found)
-  over_byte-cons false rest own found = refl
-
-  over_byte-same : (b : Bool) (found : Option ℕ) → cond b found found ≡ found
-  over_byte-same true found = refl
-  over_byte-same false found = refl
-
   over_byte-nil : (found : Option ℕ) (offset : ℕ) → found ≡ over_byte [] found offset
-  over_byte-nil found offset = sym (over_byte-same (nat_lt offset count) found)
+  over_byte-nil found offset = grind arith
 
   over_byte-laid : (s : Store) (ss : List Store) (found : Option ℕ) (offset : ℕ) →
       over_byte ss (over_byte (s ∷ []) found offset) offset ≡ over_byte (s ∷ ss) found offset
-  over_byte-laid s ss found offset =
-      over_byte-cons (nat_lt offset count) (youngest_byte (address + offset) ss) (byte_at (address + offset) s) found
+  over_byte-laid s ss found offset = grind (arith, option_or_assoc)
 
   four : {a b c d a' b' c' d' : Option ℕ} → a ≡ a' → b ≡ b' → c ≡ c' → d ≡ d' →
       a ∷ b ∷ c ∷ d ∷ [] ≡ a' ∷ b' ∷ c' ∷ d' ∷ []
@@ -71,15 +58,11 @@ module _ (address count : ℕ) where
       fold-over ss (over_byte (s ∷ []) a 0) (over_byte (s ∷ []) b 1) (over_byte (s ∷ []) c 2) (over_byte (s ∷ []) d 3) ∙
       four (over_byte-laid s ss a 0) (over_byte-laid s ss b 1) (over_byte-laid s ss c 2) (over_byte-laid s ss d 3)
 
-  over_byte-none : (b : Bool) (rest : Option ℕ) → cond b (option_or rest None) None ≡ cond b rest None
-  over_byte-none true rest = option_or-none rest
-  over_byte-none false rest = refl
-
   -- the stores laid over one another, from no bytes on, leave the bytes that they forward
   pub fold-laid_over : (ss : List Store) →
       fold (λ found s. laid_over address count s found) (None ∷ None ∷ None ∷ None ∷ []) ss ≡ forwarded ss address count
   fold-laid_over ss =
       let none : (offset : ℕ) →
       over_byte ss None offset ≡ cond (nat_lt offset count) (youngest_byte (address + offset) ss) None =
-      λ offset. over_byte-none (nat_lt offset count) (youngest_byte (address + offset) ss) in
+      λ offset. grind (arith, option_or-none) in
       fold-over ss None None None None ∙ four (none 0) (none 1) (none 2) (none 3)

@@ -1,6 +1,6 @@
 -- A retirement changes the store at one place: the first that is not committed.
-use Rattle.std.proofs.Common.{◌≡◌, ℕ, zero, suc, ◌+◌, Bool, true, false, cond, ◌<◌, List, [], ◌∷◌}
-use Rattle.std.proofs.Common.{All, slice_get, slice_set, Some, None, refl, sym, ap, ◌∙◌, arith}
+use Rattle.std.proofs.Common.{◌≡◌, ℕ, zero, suc, Bool, true, false, cond, ◌<◌, List, [], ◌∷◌}
+use Rattle.std.proofs.Common.{All, slice_get, slice_set, Some, None, refl, sym, ◌∙◌, arith}
 use Rattle.std.proofs.lemmas.Bool.{true≢false}
 use Rattle.std.specs.List.{prefix_len}
 use Rattle.rv_stores.specs.declared.store.Store.{Store}
@@ -15,38 +15,19 @@ use Rattle.rv_stores.proofs.Prefix.{ComeFirst-tail, ComeFirst-fails}
 abbrev pub retired_store : Store → Store
 retired_store s = record s { state = retired s.state }
 
-set_one : (b : Bool) (s : Store) (ss : List Store) (i : ℕ) (x : Store) → i ≡ cond b (1 + prefix_len is_committed ss) 0 →
-    slice_get (s ∷ ss) i ≡ Some x →
-    ((j : ℕ) → j ≡ prefix_len is_committed ss → slice_get ss j ≡ Some x →
-    with_oldest_retired ss ≡ slice_set ss j (retired_store x)) →
-    cond b (s ∷ with_oldest_retired ss) (retired_store s ∷ ss) ≡ slice_set (s ∷ ss) i (retired_store x)
-set_one true s ss zero x at is on = absurd (omega arith)
-set_one true s ss (suc j) x at is on = ap (λ l. s ∷ l) (on j (omega arith) is)
-set_one false s ss zero x at is on = let same : s ≡ x = cc in ap (λ t. retired_store t ∷ ss) same
-set_one false s ss (suc j) x at is on = absurd (omega arith)
-
 -- a retirement replaces the first store after those that are committed by the retired one
 pub with_oldest_retired-set : (ss : List Store) (i : ℕ) (x : Store) → i ≡ prefix_len is_committed ss →
     slice_get ss i ≡ Some x → with_oldest_retired ss ≡ slice_set ss i (retired_store x)
 with_oldest_retired-set [] i x at is = absurd (cc)
-with_oldest_retired-set (s ∷ ss) i x at is =
-    set_one (is_committed s) s ss i x at is (λ j at' is'. with_oldest_retired-set ss j x at' is')
-
-same_one : (b : Bool) (s : Store) (ss : List Store) (i : ℕ) → i ≡ cond b (1 + prefix_len is_committed ss) 0 →
-    slice_get (s ∷ ss) i ≡ None →
-    ((j : ℕ) → j ≡ prefix_len is_committed ss → slice_get ss j ≡ None → with_oldest_retired ss ≡ ss) →
-    cond b (s ∷ with_oldest_retired ss) (retired_store s ∷ ss) ≡ s ∷ ss
-same_one true s ss zero at is on = absurd (omega arith)
-same_one true s ss (suc j) at is on = ap (λ l. s ∷ l) (on j (omega arith) is)
-same_one false s ss zero at is on = absurd (cc)
-same_one false s ss (suc j) at is on = absurd (omega arith)
+with_oldest_retired-set (s ∷ ss) zero x at is = grind arith
+with_oldest_retired-set (s ∷ ss) (suc i) x at is = grind (arith, with_oldest_retired-set ss i x)
 
 -- where all stores are committed, a retirement changes none
 pub with_oldest_retired-same : (ss : List Store) (i : ℕ) → i ≡ prefix_len is_committed ss → slice_get ss i ≡ None →
     with_oldest_retired ss ≡ ss
 with_oldest_retired-same [] i at is = refl
-with_oldest_retired-same (s ∷ ss) i at is =
-    same_one (is_committed s) s ss i at is (λ j at' is'. with_oldest_retired-same ss j at' is')
+with_oldest_retired-same (s ∷ ss) zero at is = absurd (cc)
+with_oldest_retired-same (s ∷ ss) (suc i) at is = grind (arith, with_oldest_retired-same ss i)
 
 above-retired : (n : ℕ) (ss : List Store) → All (λ s. n < s.seq) ss → All (λ s. n < s.seq) (with_oldest_retired ss)
 above-retired n [] h = h

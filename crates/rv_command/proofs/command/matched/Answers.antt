@@ -1,8 +1,5 @@
-use Rattle.std.proofs.Common.{◌≡◌, ◌∙◌, Err, List, [], Ok, Option, map, rules, subst}
-use Rattle.std.specs.Prelude.{IfErr}
-use Rattle.std.specs.Option.{option_map_or}
-use Rattle.clap.specs.Words.{Row, Text}
-use Rattle.rv_command.specs.Command.{said_of}
+use Rattle.std.proofs.Common.{arith}
+use Rattle.std.proofs.Common.{◌∙◌, Err, Ok, map, rules}
 use Rattle.rv_command.proofs.Parses.{fails_by, taken_rows, taken_words}
 use Rattle.rv_command.proofs.command.matched.Goals as goal
 
@@ -15,12 +12,7 @@ returns-clause-command c =
     ∙ c.in_ok-found.ensures.command
 
 pub returns-clause-said : goal.returns-clause-said
-returns-clause-said c =
-    let rows = taken_rows c.args.parser.now (map (λ w. w.bytes.items) c.args.words.now) c.in_ok-matches.matches
-    c.requires.program c.in_ok-matches.ensures.ok.2 in
-    subst (λ (given : Option (Text × List Row)). IfErr c.in_ok-found.field-0
-    (λ refused. refused.line.bytes.items ≡ option_map_or said_of given [])) rows
-    c.in_ok-found.ensures.said
+returns-clause-said c = grind (arith, taken_rows)
 
 pub returns-clause-kinds : goal.returns-clause-kinds
 returns-clause-kinds c =

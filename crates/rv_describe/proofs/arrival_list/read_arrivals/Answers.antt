@@ -13,5 +13,4 @@ blank_has_none text table blank parsed some = grind (arith, blank)
 
 pub returns-in-Ok-Some-clause-memory : goal.returns-in-Ok-Some-clause-memory
 returns-in-Ok-Some-clause-memory c =
-    λ memory blank. blank_has_none c.args.bytes.now _ blank (rw c.in-Ok-Some.field-0-is at c.in-Ok-Some.ensures.read)
-    (c.read_table.ensures.memory memory)
+    grind (arith, blank_has_none)

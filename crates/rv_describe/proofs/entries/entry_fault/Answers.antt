@@ -1,18 +1,14 @@
-use Rattle.std.proofs.Common.{◌∙◌, sym}
+use Rattle.std.proofs.Common.{◌∙◌, sym, arith}
 use Rattle.std.proofs.lemmas.List.{take-map}
 use Rattle.rv_describe.proofs.Mapped.{list_any-map}
 use Rattle.rv_describe.proofs.entries.entry_fault.Goals as goal
 
 pub returns-then-has_unknown_fields : goal.returns-then-has_unknown_fields
-returns-then-has_unknown_fields c = simp (list_any-map, sym c.has_unknown_fields.ensures ∙ c.if-has_unknown_fields.true)
+returns-then-has_unknown_fields c = grind (arith, list_any-map)
 
 pub returns-in-Some : goal.returns-in-Some
 returns-in-Some c =
-    simp (
-      list_any-map,
-      sym c.has_unknown_fields.ensures ∙ c.if-has_unknown_fields.false,
-      sym c.first_with.ensures ∙ c.in-Some.is,
-    )
+    grind (arith, list_any-map)
 
 pub returns-in-Some-first_with : goal.returns-in-Some-first_with
 returns-in-Some-first_with c =

@@ -1,4 +1,4 @@
-use Rattle.std.proofs.Common.{◌≡◌, ◌≤◌, ◌∙◌, ap, sym, false, List, length, map, nat_lt, Ok, arith}
+use Rattle.std.proofs.Common.{◌≡◌, ◌≤◌, ◌∙◌, ap, sym, false, List, length, map, nat_lt, arith}
 use Rattle.std.proofs.lemmas.Bool.Decides.{nat_tests}
 use Rattle.std.proofs.lemmas.List.{length-map}
 use Rattle.toml.specs.View.{view}
@@ -15,15 +15,7 @@ few entries le = simp length-map (grind (arith, nat_tests))
 pub returns-in-Some-first_fall-clause-read : goal.returns-in-Some-first_fall-clause-read
 unfolding entries_meaning
 returns-in-Some-first_fall-clause-read c =
-    let same : c.in-Ok.arrivals.items ≡ arrivals_of (map view c.args.entries.now) = c.in-Ok.ensures
-    ∙ sym (filter_map-map view arrival_of c.args.entries.now) in
-    let falling = ap (first_fall 1 0) (sym (c.as_slice.ensures.value ∙ same)) ∙ sym c.first_fall.ensures
-    ∙ c.in-Some-first_fall.is in
-    λ memory. rw (
-      sym c.entry_fault.ensures ∙ c.in_default.is,
-      few c.args.entries.now c.if-entries-gt-MOST_ARRIVALS.false,
-      falling,
-    )
+    grind (arith, filter_map-map, few)
 
 pub unwrap-requires : goal.unwrap-requires
 unwrap-requires c =
@@ -37,14 +29,4 @@ unwrap-requires c =
 pub returns-in-None-clause-read : goal.returns-in-None-clause-read
 unfolding entries_meaning
 returns-in-None-clause-read c =
-    let same : c.in-Ok.arrivals.items ≡ arrivals_of (map view c.args.entries.now) = c.in-Ok.ensures
-    ∙ sym (filter_map-map view arrival_of c.args.entries.now) in
-    let sorted = ap (first_fall 1 0) (sym (c.as_slice.ensures.value ∙ same))
-    ∙ sym c.first_fall.ensures ∙ c.in-None.is in
-    λ memory. ap Ok (rw c.unwrap.ensures at c.new.ensures.arrivals ∙ same)
-    ∙ sym (rw (
-      sym c.entry_fault.ensures
-          ∙ c.in_default.is,
-      few c.args.entries.now c.if-entries-gt-MOST_ARRIVALS.false,
-      sorted,
-    ))
+    grind (arith, filter_map-map, few)

@@ -1,14 +1,11 @@
-use Rattle.std.proofs.Common.{◌≡◌, ℕ, ◌+◌, nat_le, nat_lt, List, filter, inl, inr, rules, refl, arith, ◌∙◌, le-leb}
-use Rattle.std.proofs.lemmas.Bool.{cases_lt, lt-leb, lt-ltb, le-ltb}
+use Rattle.std.proofs.Common.{◌≡◌, ℕ, ◌+◌, nat_le, nat_lt, List, filter, rules, arith, ◌∙◌}
+use Rattle.std.proofs.lemmas.Bool.Decides.{nat_tests}
 use Rattle.std.proofs.lemmas.Fn.{filter_same}
 use Rattle.rv_isa.specs.Numbered.{below}
 use Rattle.rv_rename.proofs.checkpoints.keep_up_to.Goals as goal
 
 le-lt : (m n : ℕ) → nat_le m n ≡ nat_lt m (n + 1)
-le-lt m n = elim (cases_lt n m) [
-  | inl above ↦ rw (lt-leb m n above, le-ltb m (n + 1) (omega arith)) refl
-  | inr within ↦ rw (le-leb m n within, lt-ltb m (n + 1) (omega arith)) refl
-]
+le-lt m n = grind (arith, nat_tests)
 
 filter-le : (n : ℕ) (xs : List ℕ) → filter (λ x. nat_le x n) xs ≡ below (λ x. x) (n + 1) xs
 filter-le n xs i = filter (λ x. le-lt x n i) xs

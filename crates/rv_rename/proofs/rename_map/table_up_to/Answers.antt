@@ -7,22 +7,10 @@ use Rattle.rv_rename.proofs.Prefixes.{seq_of, take-next, below-next, below-end}
 use Rattle.rv_rename.proofs.rename_map.table_up_to.Goals as goal
 
 pub returns-then-producer-seq-clause-kept : goal.returns-then-producer-seq-clause-kept
-returns-then-producer-seq-clause-kept c =
-    let held : slice_get c.args.producers.now.items c.loop-i.i ≡ Some c.in-Some.producer.now = sym c.get.ensures
-    ∙ ap option_copied c.in-Some.is in
-    let end = below-end (c.args.seq + 1) c.loop-i.i c.args.producers.now.items c.in-Some.producer.now c.requires held
-    (omega (arith, c.if-producer-seq.true)) in
-    sym (c.loop-i.invariant.0 ∙ rw end (append-nil _))
+returns-then-producer-seq-clause-kept c = grind (arith, below-end, append-nil)
 
 pub returns-then-producer-seq-clause-table : goal.returns-then-producer-seq-clause-table
-returns-then-producer-seq-clause-table c =
-    let held : slice_get c.args.producers.now.items c.loop-i.i ≡ Some c.in-Some.producer.now = sym c.get.ensures
-    ∙ ap option_copied c.in-Some.is in
-    let end = below-end (c.args.seq + 1) c.loop-i.i c.args.producers.now.items c.in-Some.producer.now c.requires held
-    (omega (arith, c.if-producer-seq.true)) in
-    let kept : below seq_of (c.args.seq + 1) c.args.producers.now.items ≡ take c.loop-i.i c.args.producers.now.items =
-    c.loop-i.invariant.0 ∙ rw end (append-nil _) in
-    rw kept c.loop-i.invariant.1
+returns-then-producer-seq-clause-table c = grind (arith, below-end, append-nil)
 
 pub loop-i-preserved : goal.loop-i-preserved
 loop-i-preserved c =

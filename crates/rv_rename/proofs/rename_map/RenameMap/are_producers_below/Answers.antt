@@ -1,4 +1,4 @@
-use Rattle.std.proofs.Common.{refl, sym, ap, ◌∙◌, option_copied, lt-ltb}
+use Rattle.std.proofs.Common.{sym, ap, ◌∙◌, option_copied, lt-ltb, arith}
 use Rattle.std.proofs.lemmas.Bool.{ltb-true}
 use Rattle.rv_rename.proofs.Prefixes.{AreBelow-tells, AreBelow-empty}
 use Rattle.rv_rename.proofs.rename_map.RenameMap.are_producers_below.Goals as goal
@@ -11,8 +11,4 @@ returns-in-Some c =
 
 pub returns-in-None : goal.returns-in-None
 returns-in-None c =
-    rw (← c.self.view_is) (
-      λ t. AreBelow-empty c.args.seq c.self.inside.producers.items
-          (sym c.back.ensures ∙ ap option_copied c.in-None.is),
-      λ are. refl,
-    )
+    grind (arith, AreBelow-empty)

@@ -1,4 +1,4 @@
-use Rattle.std.proofs.Common.{◌+◌, ◌≤◌, refl, sym, ap, ◌∙◌, option_copied, arith, le-leb}
+use Rattle.std.proofs.Common.{◌+◌, ◌≤◌, sym, ap, ◌∙◌, option_copied, arith, le-leb}
 use Rattle.std.proofs.lemmas.Bool.{leb-true}
 use Rattle.rv_rename.proofs.Prefixes.{AreBelow-tells, AreBelow-empty}
 use Rattle.rv_rename.proofs.rename_map.RenameMap.are_producers_up_to.Goals as goal
@@ -14,8 +14,4 @@ returns-in-Some c =
 
 pub returns-in-None : goal.returns-in-None
 returns-in-None c =
-    rw (← c.self.view_is) (
-      λ t. AreBelow-empty (c.args.seq + 1) c.self.inside.producers.items
-          (sym c.back.ensures ∙ ap option_copied c.in-None.is),
-      λ are. refl,
-    )
+    grind (arith, AreBelow-empty)

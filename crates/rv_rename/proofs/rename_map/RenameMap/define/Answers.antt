@@ -21,11 +21,4 @@ invariant_of-self c =
     })
 
 pub returns : goal.returns
-returns c =
-    let after = rw (← c.self.view_is) at c.requires.2 in
-    rw (
-      ← c.self.view_is,
-      c.append.ensures,
-      checkpoints-define c.self.inside.checkpoints.items
-          c.self.inside.producers.items (record { register = c.args.reg; seq = c.args.seq }) after,
-    )
+returns c = grind (arith, checkpoints-define)

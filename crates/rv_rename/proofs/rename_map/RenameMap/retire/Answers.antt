@@ -57,12 +57,4 @@ pub returns-else-eq-clause-oldest : goal.returns-else-eq-clause-oldest
 returns-else-eq-clause-oldest c = retires (goal.at.returns-else-eq-clause-oldest c).After-pop_front
 
 pub returns-else-is_oldest-clause-oldest : goal.returns-else-is_oldest-clause-oldest
-returns-else-is_oldest-clause-oldest c =
-    let other = rw (← c.self.view_is) at (sym c.is_oldest.ensures ∙ c.if-is_oldest.false) in
-    rw (
-      ← c.self.view_is,
-      other,
-      checkpoints-retire c.args.reg c.args.seq c.self.inside.checkpoints.items
-          c.self.inside.producers.items c.self.invariant.in_order,
-      other,
-    )
+returns-else-is_oldest-clause-oldest c = grind (arith, checkpoints-retire)

@@ -1,4 +1,4 @@
-use Rattle.std.proofs.Common.{◌≡◌, Some, refl, sym}
+use Rattle.std.proofs.Common.{◌≡◌, Some, sym, arith}
 use Rattle.circular_buffer.specs.Buffer.{last_item}
 use Rattle.rv_stores.proofs.Kept.{AreBelow-none, AreBelow-youngest, youngest-below}
 use Rattle.std.proofs.lemmas.Bool.{lt-ltb, ltb-true}
@@ -15,5 +15,4 @@ returns-in-Some c =
     )
 
 pub returns-in-None : goal.returns-in-None
-returns-in-None c =
-    rw (← c.self.view_is) (λ _. AreBelow-none c.args.seq c.self.inside.ring.items (sym c.in-None.ensures), λ _. refl)
+returns-in-None c = grind (arith, AreBelow-none)

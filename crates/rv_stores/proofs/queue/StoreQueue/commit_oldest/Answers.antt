@@ -1,16 +1,9 @@
-use Rattle.std.proofs.Common.{refl, sym}
-use Rattle.rv_stores.proofs.Retired.{with_oldest_retired-set, with_oldest_retired-same}
-use Rattle.rv_stores.proofs.Retired.{IsInOrder-retired, ComeFirst-retired}
+use Rattle.std.proofs.Common.{sym, arith}
+use Rattle.rv_stores.proofs.Retired.{with_oldest_retired-set, with_oldest_retired-same, IsInOrder-retired, ComeFirst-retired}
 use Rattle.rv_stores.proofs.queue.StoreQueue.commit_oldest.Goals as goal
 
 pub returns-in_default : goal.returns-in_default
-returns-in_default c =
-    let count = rw (← c.self.view_is) at c.committed_count-place.ensures in
-    rw (
-      ← c.self.view_is,
-      with_oldest_retired-same c.self.inside.ring.items c.committed_count-place.result count
-          (sym c.in_default.ensures.value),
-    ) refl
+returns-in_default c = grind (arith, with_oldest_retired-same)
 
 pub invariant_of-self-2 : goal.invariant_of-self-2
 invariant_of-self-2 c =
@@ -23,8 +16,4 @@ invariant_of-self-2 c =
     )
 
 pub returns : goal.returns
-returns c =
-    let count = rw (← c.self.view_is) at c.committed_count-place.ensures in
-    let retire = with_oldest_retired-set c.self.inside.ring.items c.committed_count-place.result c.in-Some.store.now
-    count (sym c.in-Some.ensures.value) in
-    rw (← c.self.view_is, retire, c.retired-store.ensures) refl
+returns c = grind (arith, with_oldest_retired-set)

@@ -1,11 +1,9 @@
-use Rattle.std.proofs.Common.{refl, sym}
-use Rattle.rv_stores.proofs.Drained.{with_oldest_draining-set, with_oldest_draining-same}
-use Rattle.rv_stores.proofs.Drained.{IsInOrder-draining, ComeFirst-draining}
+use Rattle.std.proofs.Common.{sym, arith}
+use Rattle.rv_stores.proofs.Drained.{with_oldest_draining-set, with_oldest_draining-same, IsInOrder-draining, ComeFirst-draining}
 use Rattle.rv_stores.proofs.queue.StoreQueue.drain_oldest.Goals as goal
 
 pub returns-in_default : goal.returns-in_default
-returns-in_default c =
-    rw (← c.self.view_is, with_oldest_draining-same c.self.inside.ring.items (sym c.in_default.ensures.value)) refl
+returns-in_default c = grind (arith, with_oldest_draining-same)
 
 pub invariant_of-self-2 : goal.invariant_of-self-2
 invariant_of-self-2 c =
@@ -16,6 +14,4 @@ invariant_of-self-2 c =
     )
 
 pub returns : goal.returns
-returns c =
-    let drain = with_oldest_draining-set c.self.inside.ring.items c.in-Some.store.now (sym c.in-Some.ensures.value) in
-    rw (← c.self.view_is, drain, c.draining-store.ensures) refl
+returns c = grind (arith, with_oldest_draining-set)

@@ -1,9 +1,8 @@
 -- One more start of the cycle, or one more that holds a unit.
-use Rattle.std.proofs.Common.{rules, arith, ap, ◌∙◌, ◌≡◌, ◌++◌, ◌∷◌, ◌<◌, [], List, false, length}
+use Rattle.std.proofs.Common.{rules, arith, ◌≡◌}
 use Rattle.std.proofs.lemmas.Fn.{filter_same}
 use Rattle.std.proofs.lemmas.Bool.{ltb-true}
-use Rattle.rv_isa.specs.declared.issues.Issue.{Issue}
-use Rattle.rv_units.specs.Pool.{Pool, holding, holds_unit}
+use Rattle.rv_units.specs.Pool.{holding, holds_unit}
 use Rattle.rv_units.proofs.PoolLemmas.{started-pipelined}
 use Rattle.rv_units.proofs.unit_pool.UnitPool.start.Goals as goal
 
@@ -21,14 +20,8 @@ pub push_reserved-requires : goal.push_reserved-requires
 push_reserved-requires c =
     let kept : c.retain.new.self.items ≡ holding c.args.cycle c.self.inside.starts.items =
     filter_same _ (holds_unit c.args.cycle) _ (λ x b f' k. search rules) _ _ c.retain.ensures.filtered in
-    let free : length (holding c.args.cycle c.self.inside.starts.items) < c.self.inside.units =
-    ltb-true _ _ (rw (← c.self.view_is, c.if-self.false) at c.requires) in
-    omega (arith, ap length kept, free, c.retain.ensures.capacity, c.self.invariant.reserved)
+    grind (arith, kept, ltb-true)
 
 pub returns : goal.returns
 returns c =
-    let pool : List Issue → Pool = λ ss. record { units = c.self.inside.units; is_pipelined = false; starts = ss } in
-    rw (← c.self.view_is)
-    (rw c.if-self.false
-    (ap pool (c.push_reserved.ensures.items
-    ∙ ap (λ (ss : List Issue). ss ++ record { cycle = c.args.cycle; cost = c.args.cost } ∷ []) (kept c))))
+    grind (arith, kept)
